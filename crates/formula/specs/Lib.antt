@@ -1,0 +1,9 @@
+pub mod Layout
+pub mod Tokens
+pub mod Formula
+pub mod Spelling
+pub mod Reading
+pub mod Writing
+pub mod Cells
+pub mod Moving
+pub mod Laws
