@@ -15,7 +15,7 @@ use Rattle.formula.specs.Layout.{formula-len}
 use Rattle.formula.specs.Tokens.{decoded}
 use Rattle.formula.specs.Formula.{Formula}
 use Rattle.formula.specs.Spelling.{Spells, a-number, a-cell, a-fold, an-operation, a-choice}
-use Rattle.formula.specs.Reading.{Read, read, joins, reads, ends, whole, spelled}
+use Rattle.formula.specs.Reading.{Read, read, joins, reads, formula-at, ends, whole, spelled}
 use Rattle.formula.proofs.Steps.{by-token, reads-step, reads-none}
 
 -- what is spelled is read
@@ -65,3 +65,7 @@ whole-spelled ws f e = go (leb (length ws) formula-len) refl e
     go : (b : Bool) → leb (length ws) formula-len ≡ b → cond b (whole (reads ws)) None ≡ Some f → (length ws ≤ formula-len) × Spells ws f []
     go true l e = (leb-true (length ws) formula-len l, inner (reads ws) (chain ws) e)
     go false l e = absurd (grind arith)
+
+-- the formula that a row is stands first in it
+pub spelled-first : (ws : List ℕ) (f : Formula) → spelled ws ≡ Some f → formula-at 0 (reads ws) ≡ Some f
+spelled-first ws f e = ap (formula-at 0) (reads-spelled (whole-spelled ws f e .1))

@@ -1,0 +1,6 @@
+pub mod Limits
+pub mod Values
+pub mod Traces
+pub mod Evaluation
+pub mod Trails
+pub mod Looking
