@@ -4,3 +4,5 @@ pub mod Traces
 pub mod Evaluation
 pub mod Trails
 pub mod Looking
+pub mod Knowledge
+pub mod Laws
