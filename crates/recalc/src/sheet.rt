@@ -1,9 +1,11 @@
 // A sheet in lent memory: its rows, its columns, and 61 numbers a cell in reading order.
 ghost use mathlib.Core.Path.{_≡_};
 ghost use lib.ListN.{getD};
+ghost use Rattle.std.specs.Vec.{made};
 ghost use Rattle.formula.specs.Cells.{content, meant};
-ghost use Rattle.recalc.specs.Layout.{cell-numbers, first-malformed, within, checked};
+ghost use Rattle.recalc.specs.Layout.{cell-numbers, first-malformed, within, checked, Sized};
 use crate::refusal::Refusal;
+use crate::size::Size;
 use evaluate::MAX_COLUMNS;
 use evaluate::MAX_ROWS;
 use formula::CELL_LEN;
@@ -49,9 +51,10 @@ fn is_within(n: u64, most: u64) -> bool
     1 <= n && n <= most
 }
 
-// The first refusal that applies to the sheet.
-pub fn check_sheet(nums: &[u64]) -> Result<(), Refusal>
-    ensures { λ r. ⌜ r ≡ checked (now (nums .entry)) ⌝ }
+// The size of a sheet, or the first refusal that applies to it.
+pub fn check_sheet(nums: &[u64]) -> Result<Size, Refusal>
+    ensures is { λ r. ⌜ r ≡ checked (now (nums .entry)) ⌝ }
+    ensures sized { λ r. ⌜ made r (Sized (now (nums .entry))) ⌝ }
 {
     let rows = number_at(nums, 0);
     let cols = number_at(nums, 1);
@@ -67,6 +70,6 @@ pub fn check_sheet(nums: &[u64]) -> Result<(), Refusal>
     }
     match first_malformed_cell(nums, count) {
         Some(index) => Err(Refusal::Malformed(index)),
-        None => Ok(()),
+        None => Ok(Size { rows, cols }),
     }
 }

@@ -1,0 +1,4 @@
+pub mod Notation
+pub mod Numbers
+pub mod Errors
+pub mod Laws
