@@ -28,7 +28,11 @@ pub fn evaluate<C: Cells>(tokens: &[u64], cells: &C) -> Option<Result<u64, Stop>
 }
 
 // The same, and the places of the sheet that the formula looks at are added to the list, in order; where that is refused, the list is as it was.
-pub fn looks<C: Cells>(tokens: &[u64], cells: &C, places: &mut Vec<CellRef>) -> Result<Result<u64, Stop>, Unlisted>
+pub fn looks<C: Cells>(
+    tokens: &[u64],
+    cells: &C,
+    places: &mut Vec<CellRef>,
+) -> Result<Result<u64, Stop>, Unlisted>
     ensures { λ r. ⌜ Lists (shown (now (cells .entry))) (height (now (cells .entry))) (width (now (cells .entry))) (spelled (now (tokens .entry))) r (vec-items (now (places .entry))) (vec-items (now (places .exit))) ⌝ }
 {
     if !is_formula(tokens) {
@@ -41,7 +45,10 @@ pub fn looks<C: Cells>(tokens: &[u64], cells: &C, places: &mut Vec<CellRef>) -> 
         full: false,
     };
     let outcome = work(tokens, 0, cells, &mut trail);
-    let Listed { places: listed, full } = trail;
+    let Listed {
+        places: listed,
+        full,
+    } = trail;
     *places = listed;
     if full {
         places.truncate(before);

@@ -1,6 +1,6 @@
 // The sum, the count and the largest of the numbers in a range.
 ghost use mathlib.Core.Path.{_≡_};
-ghost use Prim.Native.Nat.{_+_, _-_, _≤_, _<_};
+ghost use Prim.Native.Nat.{min, _+_, _-_, _≤_, _<_};
 ghost use Rattle.std.specs.Vec.{made};
 ghost use Rattle.formula.specs.Formula as formula;
 ghost use Rattle.evaluate.specs.Limits.{max-rows, max-columns};
@@ -36,7 +36,14 @@ fn take_in(tally: Tally, place: CellRef, value: Option<Value>) -> Result<Tally, 
 }
 
 // A tally with the cells of one row.
-fn take_row<C: Cells, T: Trail>(cells: &C, row: u64, from: u64, to: u64, tally: Tally, trail: &mut T) -> Result<Tally, Stop>
+fn take_row<C: Cells, T: Trail>(
+    cells: &C,
+    row: u64,
+    from: u64,
+    to: u64,
+    tally: Tally,
+    trail: &mut T,
+) -> Result<Tally, Stop>
     requires room { ⌜ Bounded tally ⌝ ∗ ⌜ tally .count ≤ 480 ⌝ }
     requires within { ⌜ row < height (now cells) ⌝ ∗ ⌜ to ≤ width (now cells) ⌝ ∗ ⌜ width (now cells) ≤ max-columns ⌝ }
     ensures follows { λ r. ⌜ Follows (height (now (cells .entry))) (width (now (cells .entry))) (gathered-row (shown (now (cells .entry))) from (to - from) row tally) r (log (now (trail .entry))) (log (now (trail .exit))) ⌝ }
@@ -51,12 +58,19 @@ fn take_row<C: Cells, T: Trail>(cells: &C, row: u64, from: u64, to: u64, tally: 
     Ok(sum)
 }
 
+// The end of so many lines, within the sheet.
+fn clip(first: u64, count: u64, lines: u64) -> u64
+    ensures { λ r. ⌜ r - first ≡ min (first + count) lines - first ⌝ ∗ ⌜ r ≤ lines ⌝ }
+{
+    first.saturating_add(count).min(lines)
+}
+
 // Only the cells within the sheet are looked at, however large the range.
 fn gather<C: Cells, T: Trail>(cells: &C, range: Range, trail: &mut T) -> Result<Tally, Stop>
     ensures { λ r. ⌜ Follows (height (now (cells .entry))) (width (now (cells .entry))) (gathered (shown (now (cells .entry))) range) r (log (now (trail .entry))) (log (now (trail .exit))) ⌝ }
 {
-    let bottom = range.row.saturating_add(range.rows).min(cells.rows());
-    let right = range.col.saturating_add(range.cols).min(cells.cols());
+    let bottom = clip(range.row, range.rows, cells.rows());
+    let right = clip(range.col, range.cols, cells.cols());
     let mut tally = Tally {
         count: 0,
         total: 0,
@@ -81,7 +95,12 @@ fn finish(aggregate: Aggregate, tally: Tally) -> Result<u64, Stop>
     }
 }
 
-pub fn fold<C: Cells, T: Trail>(aggregate: Aggregate, range: Option<Range>, cells: &C, trail: &mut T) -> Result<u64, Stop>
+pub fn fold<C: Cells, T: Trail>(
+    aggregate: Aggregate,
+    range: Option<Range>,
+    cells: &C,
+    trail: &mut T,
+) -> Result<u64, Stop>
     ensures { λ r. ⌜ Follows (height (now (cells .entry))) (width (now (cells .entry))) (trace (shown (now (cells .entry))) (formula.fold aggregate range)) r (log (now (trail .entry))) (log (now (trail .exit))) ⌝ }
 {
     let Some(range) = range else {

@@ -1,13 +1,12 @@
 // Working out a formula, operand by operand.
 ghost use mathlib.Core.Path.{_≡_};
-ghost use mathlib.Core.Bool.{true};
+ghost use mathlib.Core.Bool.{true, cond};
 ghost use mathlib.Core.List.{[], _∷_};
-ghost use Prim.Native.Nat.{_<_};
-ghost use lib.ListN.{length};
+ghost use lib.Dec.{ltb};
 ghost use Rattle.std.specs.Options.{isSome, valueOr};
 ghost use Rattle.std.specs.declared.option.Option.the-variants.{Some};
 ghost use Rattle.formula.specs.Formula as formula;
-ghost use Rattle.formula.specs.Reading.{reads, joins, formula-at};
+ghost use Rattle.formula.specs.Reading.{reads, formula-at};
 ghost use Rattle.evaluate.specs.Traces.{seen};
 ghost use Rattle.evaluate.specs.Evaluation.{applied, trace};
 ghost use Rattle.evaluate.specs.Trails.{inside, Kept, Follows};
@@ -73,21 +72,26 @@ fn look<C: Cells, T: Trail>(place: Option<CellRef>, cells: &C, trail: &mut T) ->
     number_in(place, cells.at(place.row, place.col))
 }
 
-// The token with which the formula after `nth` others begins, and the numbers after it.
-fn begin(tokens: &[u64], nth: usize) -> (Token, &[u64])
-    requires { ⌜ isSome (formula-at nth (reads (now tokens))) ≡ true ⌝ }
-    ensures shorter { λ r. ⌜ length (now (r .1)) < length (now (tokens .entry)) ⌝ }
-    ensures begins { λ r. ⌜ formula-at nth (reads (now (tokens .entry))) ≡ formula-at 0 (joins (r .0) (now (r .1)) (reads (now (r .1)))) ⌝ }
+// Which operand of a choice is worked out after the first two.
+fn taken_operand(a: u64, b: u64) -> usize
+    ensures { λ r. ⌜ r ≡ cond (ltb a b) 2 3 ⌝ }
 {
-    read_operand(tokens, nth).unwrap()
+    if a < b { 2 } else { 3 }
 }
 
 // Works out the formula that stands after `nth` others.
-pub fn work<C: Cells, T: Trail>(tokens: &[u64], nth: usize, cells: &C, trail: &mut T) -> Result<u64, Stop>
+pub fn work<C: Cells, T: Trail>(
+    tokens: &[u64],
+    nth: usize,
+    cells: &C,
+    trail: &mut T,
+) -> Result<u64, Stop>
     requires { ⌜ isSome (formula-at nth (reads (now tokens))) ≡ true ⌝ }
     ensures { λ r. ⌜ ((x : formula.Formula) → formula-at nth (reads (now (tokens .entry))) ≡ Some x → Follows (height (now (cells .entry))) (width (now (cells .entry))) (trace (shown (now (cells .entry))) x) r (log (now (trail .entry))) (log (now (trail .exit)))) ⌝ }
 {
-    let (token, rest) = begin(tokens, nth);
+    let Some((token, rest)) = read_operand(tokens, nth) else {
+        unreachable()
+    };
     match token {
         Token::Number(n) => Ok(n),
         Token::Cell(place) => look(place, cells, trail),
@@ -112,8 +116,7 @@ pub fn work<C: Cells, T: Trail>(tokens: &[u64], nth: usize, cells: &C, trail: &m
             let Ok(b) = right else {
                 return right;
             };
-            let branch = if a < b { 2 } else { 3 };
-            work(rest, branch, cells, trail)
+            work(rest, taken_operand(a, b), cells, trail)
         }
     }
 }

@@ -100,7 +100,7 @@ stored-read f h rest =
     let long : ltb (length (stored f ++ rest)) cell-len ≡ false = le-ltb (length (stored f ++ rest)) cell-len (simp length-append (omega arith)) in
     let few : leb n max-tokens ≡ true = le-leb n max-tokens h in
     let cut : take (token-len * n) ((writes f [] ++ zeros) ++ rest) ≡ writes f [] =
-        rw append-assoc (take-at (writes f []) (zeros ++ rest) (token-len * n) w) in
+    rw append-assoc (take-at (writes f []) (zeros ++ rest) (token-len * n) w) in
     rw long (go n _ few cut (positive f))
   where
     go : (n : ℕ) (xs : List ℕ) → leb n max-tokens ≡ true → take (token-len * n) xs ≡ writes f [] → 0 < n → counted n xs ≡ holds (writes f [])
@@ -122,14 +122,14 @@ filled xs ts front row zeros f h e a r z =
     let lf : length front ≡ n = ap length a in
     let first : putMid 1 (1 + n - 1) (set xs 0 k) front ≡ k ∷ (front ++ drop (1 + n) xs) = lay-numbers k n xs front h in
     let is : row ≡ writes f [] =
-        r ∙ ap (λ ys. moved-row (λ p. Some p) (λ b. Some b) (take (1 + n - 1) (drop 1 ys))) first
-        ∙ ap (moved-row (λ p. Some p) (λ b. Some b)) (lent-again k n xs front (drop (1 + n) xs) lf ∙ a) ∙ t .row in
+    r ∙ ap (λ ys. moved-row (λ p. Some p) (λ b. Some b) (take (1 + n - 1) (drop 1 ys))) first
+    ∙ ap (moved-row (λ p. Some p) (λ b. Some b)) (lent-again k n xs front (drop (1 + n) xs) lf ∙ a) ∙ t .row in
     let lr : length row ≡ n = ap length is ∙ written-length f ∙ sym (t .count) in
     let second : putMid 1 (1 + n - 1) (putMid 1 (1 + n - 1) (set xs 0 k) front) row ≡ k ∷ (row ++ drop (1 + n) xs) =
-        ap (λ ys. putMid 1 (1 + n - 1) ys row) first ∙ lay-again k n xs front row (drop (1 + n) xs) lf in
+    ap (λ ys. putMid 1 (1 + n - 1) ys row) first ∙ lay-again k n xs front row (drop (1 + n) xs) lf in
     let empty : zeros ≡ replicate (formula-len - token-len * token-count f) 0 =
-        z ∙ ap (λ ys. replicate (length (take (cell-len - (1 + n)) (drop (1 + n) ys))) 0) second
-        ∙ ap (λ i. replicate i 0) (lent-zeros k n xs row lr h ∙ ap (λ i. formula-len - i) (t .count)) in
+    z ∙ ap (λ ys. replicate (length (take (cell-len - (1 + n)) (drop (1 + n) ys))) 0) second
+    ∙ ap (λ i. replicate i 0) (lent-zeros k n xs row lr h ∙ ap (λ i. formula-len - i) (t .count)) in
     ap (λ ys. putMid (1 + n) (cell-len - (1 + n)) ys zeros) second
     ∙ lay-zeros k n xs row zeros lr short
     ∙ ap (λ i. i ∷ (row ++ (zeros ++ drop cell-len xs))) many

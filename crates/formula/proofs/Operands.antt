@@ -13,7 +13,7 @@ use Rattle.formula.specs.declared.token.Token.the-variants.{Number, Cell, Fold
 use Rattle.formula.specs.Layout.{token-len}
 use Rattle.formula.specs.Tokens.{needs, decoded}
 use Rattle.formula.specs.Formula.{Formula, number, cell, fold, binary, if-less}
-use Rattle.formula.specs.Reading.{Read, two, four, joins, reads, rest-at, after, begun, operand-of, formula-at}
+use Rattle.formula.specs.Reading.{Read, two, four, joins, reads, rest-at, after, begun, operand-of, formula-at, Operand}
 use Rattle.formula.proofs.Steps.{Begins, begins, by-token, after-step, reads-step, reads-none}
 
 two-drop : (n : ℕ) (f : Formula → Formula → Formula) (more : List Read) → drop (suc (suc n)) more ≡ drop (suc n) (two f more)
@@ -87,10 +87,31 @@ after-some : (n : ℕ) (xs : List ℕ) → isSome (formula-at n (reads xs)) ≡ 
 after-some zero xs h = refl
 after-some (suc n) xs h = rest-before n (reads xs) h
 
--- the operand after n others: its first token, and the formula that begins with it
-pub record Operand (n : ℕ) (xs : List ℕ) (t : Token) (zs : List ℕ) : Type 0 where
-  pub shorter : length zs < length xs
-  pub begins : formula-at n (reads xs) ≡ formula-at 0 (joins t zs (reads zs))
+-- the formulas that an operator takes, and those that a choice takes
+two-there : (f : Formula → Formula → Formula) (more : List Read) → isSome (formula-at 0 (two f more)) ≡ true → (k : ℕ) → k < 2 → isSome (formula-at k more) ≡ true
+two-there f [] h k l = absurd (grind arith)
+two-there f (x ∷ []) h k l = absurd (grind arith)
+two-there f (x ∷ y ∷ more) h zero l = refl
+two-there f (x ∷ y ∷ more) h (suc zero) l = refl
+two-there f (x ∷ y ∷ more) h (suc (suc k)) l = absurd (omega arith)
+
+four-there : (f : Formula → Formula → Formula → Formula → Formula) (more : List Read) → isSome (formula-at 0 (four f more)) ≡ true → (k : ℕ) → k < 4 → isSome (formula-at k more) ≡ true
+four-there f [] h k l = absurd (grind arith)
+four-there f (x ∷ []) h k l = absurd (grind arith)
+four-there f (x ∷ y ∷ []) h k l = absurd (grind arith)
+four-there f (x ∷ y ∷ u ∷ []) h k l = absurd (grind arith)
+four-there f (x ∷ y ∷ u ∷ v ∷ more) h zero l = refl
+four-there f (x ∷ y ∷ u ∷ v ∷ more) h (suc zero) l = refl
+four-there f (x ∷ y ∷ u ∷ v ∷ more) h (suc (suc zero)) l = refl
+four-there f (x ∷ y ∷ u ∷ v ∷ more) h (suc (suc (suc zero))) l = refl
+four-there f (x ∷ y ∷ u ∷ v ∷ more) h (suc (suc (suc (suc k)))) l = absurd (omega arith)
+
+operands-there : (t : Token) (xs : List ℕ) (more : List Read) → isSome (formula-at 0 (joins t xs more)) ≡ true → (k : ℕ) → k < needs t → isSome (formula-at k more) ≡ true
+operands-there (Number n) xs more h k l = absurd (omega arith)
+operands-there (Cell p) xs more h k l = absurd (omega arith)
+operands-there (Fold g b) xs more h k l = absurd (omega arith)
+operands-there (Binary op) xs more h k l = two-there (binary op) more h k l
+operands-there IfLess xs more h k l = four-there if-less more h k l
 
 pub operand : (n : ℕ) (xs : List ℕ) (t : Token) (zs : List ℕ) → operand-of n xs ≡ Some (t, zs) → Operand n xs t zs
 operand n xs t zs e = go (after n xs) refl e
@@ -102,10 +123,8 @@ operand n xs t zs e = go (after n xs) refl e
         let b = begins ys zs t d in
         let r = s .room in
         let l = b .longer in
-        record {
-          shorter = omega arith;
-          begins = sym (at-drop n (reads xs)) ∙ ap (formula-at 0) (sym (s .reads-rest) ∙ reads-step ys zs t d);
-        }
+        let starts : formula-at n (reads xs) ≡ formula-at 0 (joins t zs (reads zs)) = sym (at-drop n (reads xs)) ∙ ap (formula-at 0) (sym (s .reads-rest) ∙ reads-step ys zs t d) in
+        record { shorter = omega arith; begins = starts; operands = λ h. operands-there t zs (reads zs) (ap isSome (sym starts) ∙ h) }
 
 -- where there is a formula, there is a token with which it begins
 pub operand-there : (n : ℕ) (xs : List ℕ) → isSome (formula-at n (reads xs)) ≡ true → isSome (operand-of n xs) ≡ true
@@ -121,34 +140,3 @@ operand-there n xs h = go (after n xs) refl (after-some n xs h)
         let s = skipped xs n ys a in
         let same : formula-at 0 (reads ys) ≡ formula-at n (reads xs) = ap (formula-at 0) (s .reads-rest) ∙ at-drop n (reads xs) in
         token-there ys (decoded ys) refl (rw same h)
-
--- the formulas that an operator takes
-pub record Two (f : Formula → Formula → Formula) (more : List Read) : Type 0 where
-  pub x : Formula
-  pub y : Formula
-  pub left : formula-at 0 more ≡ Some x
-  pub right : formula-at 1 more ≡ Some y
-  pub is : formula-at 0 (two f more) ≡ Some (f x y)
-
-pub two-of : (f : Formula → Formula → Formula) (more : List Read) → isSome (formula-at 0 (two f more)) ≡ true → Two f more
-two-of f [] h = absurd (grind arith)
-two-of f (x ∷ []) h = absurd (grind arith)
-two-of f (x ∷ y ∷ more) h = record { x = x .formula; y = y .formula; left = refl; right = refl; is = refl }
-
-pub record Four (f : Formula → Formula → Formula → Formula → Formula) (more : List Read) : Type 0 where
-  pub x : Formula
-  pub y : Formula
-  pub u : Formula
-  pub v : Formula
-  pub left : formula-at 0 more ≡ Some x
-  pub right : formula-at 1 more ≡ Some y
-  pub then : formula-at 2 more ≡ Some u
-  pub else : formula-at 3 more ≡ Some v
-  pub is : formula-at 0 (four f more) ≡ Some (f x y u v)
-
-pub four-of : (f : Formula → Formula → Formula → Formula → Formula) (more : List Read) → isSome (formula-at 0 (four f more)) ≡ true → Four f more
-four-of f [] h = absurd (grind arith)
-four-of f (x ∷ []) h = absurd (grind arith)
-four-of f (x ∷ y ∷ []) h = absurd (grind arith)
-four-of f (x ∷ y ∷ u ∷ []) h = absurd (grind arith)
-four-of f (x ∷ y ∷ u ∷ v ∷ more) h = record { x = x .formula; y = y .formula; u = u .formula; v = v .formula; left = refl; right = refl; then = refl; else = refl; is = refl }

@@ -1,15 +1,17 @@
 -- The formulas that a row of numbers spells. Assumes nothing: these are definitions.
 use mathlib.Core.List.{List, [], _∷_}
-use mathlib.Core.Bool.{cond}
-use Prim.Native.Nat.{ℕ, zero, suc}
+use mathlib.Core.Bool.{true, cond}
+use mathlib.Core.Path.{_≡_}
+use Prim.Native.Nat.{ℕ, zero, suc, _<_}
 use lib.Dec.{leb}
 use lib.ListN.{length}
 use Rattle.std.specs.declared.option.Option.{Option}
 use Rattle.std.specs.declared.option.Option.the-variants.{Some, None}
+use Rattle.std.specs.Options.{isSome}
 use Rattle.formula.specs.declared.token.Token.{Token}
 use Rattle.formula.specs.declared.token.Token.the-variants.{Number, Cell, Fold, Binary, IfLess}
 use Rattle.formula.specs.Layout.{formula-len}
-use Rattle.formula.specs.Tokens.{decoded, by-tokens}
+use Rattle.formula.specs.Tokens.{needs, decoded, by-tokens}
 use Rattle.formula.specs.Formula.{Formula, number, cell, fold, binary, if-less}
 
 -- a formula, and the numbers after it
@@ -66,6 +68,12 @@ abbrev pub formula-at : ℕ → List Read → Option Formula
 formula-at n [] = None
 formula-at zero (x ∷ more) = Some (x .formula)
 formula-at (suc n) (x ∷ more) = formula-at n more
+
+-- the formula after n others begins with a token, and after that stand its operands
+pub record Operand (n : ℕ) (xs : List ℕ) (t : Token) (rest : List ℕ) : Type 0 where
+  pub shorter : length rest < length xs
+  pub begins : formula-at n (reads xs) ≡ formula-at 0 (joins t rest (reads rest))
+  pub operands : isSome (formula-at n (reads xs)) ≡ true → (k : ℕ) → k < needs t → isSome (formula-at k (reads rest)) ≡ true
 
 abbrev pub ends : List ℕ → Formula → Option Formula
 ends [] f = Some f

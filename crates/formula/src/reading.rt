@@ -1,8 +1,10 @@
 // Reading the formulas that a row of numbers spells.
 ghost use mathlib.Core.Path.{_≡_};
+ghost use mathlib.Core.Bool.{true};
+ghost use Rattle.std.specs.Slices.{found};
 ghost use Rattle.std.specs.Options.{mapped, isSome};
 ghost use Rattle.formula.specs.Tokens.{decoded};
-ghost use Rattle.formula.specs.Reading.{after, operand-of, spelled};
+ghost use Rattle.formula.specs.Reading.{after, operand-of, reads, formula-at, Operand, spelled};
 use crate::layout::FORMULA_LEN;
 use crate::layout::TOKEN_LEN;
 use crate::token::Token;
@@ -34,7 +36,9 @@ fn skip(tokens: &[u64], formulas: usize) -> Option<&[u64]>
 
 // The token with which the formula after `nth` others begins, and the numbers after it.
 pub fn read_operand(tokens: &[u64], nth: usize) -> Option<(Token, &[u64])>
-    ensures { λ r. ⌜ mapped (λ p. (p .0, now (p .1))) r ≡ operand-of nth (now (tokens .entry)) ⌝ }
+    ensures is { λ r. ⌜ mapped (λ p. (p .0, now (p .1))) r ≡ operand-of nth (now (tokens .entry)) ⌝ }
+    ensures there { λ r. ⌜ (isSome (formula-at nth (reads (now (tokens .entry)))) ≡ true → isSome r ≡ true) ⌝ }
+    ensures operand { λ r. ⌜ found r (λ p. Operand nth (now (tokens .entry)) (p .0) (now (p .1))) ⌝ }
 {
     read_token(skip(tokens, nth)?)
 }

@@ -3,8 +3,6 @@ mod laws;
 mod notation;
 mod numbers;
 mod place;
-#[cfg(test)]
-mod tests;
 mod text_error;
 
 pub use laws::written_numbers_are_read;

@@ -93,16 +93,6 @@ fn parentheses(inside: bool) -> (&'static str, &'static str)
     if inside { ("(", ")") } else { ("", "") }
 }
 
-// The token with which the formula after `nth` others begins, and the numbers after it.
-fn begin(tokens: &[u64], nth: usize) -> (Token, &[u64])
-    requires { ⌜ isSome (formula-at nth (reads (now tokens))) ≡ true ⌝ }
-    ensures shorter { λ r. ⌜ length (now (r .1)) < length (now (tokens .entry)) ⌝ }
-    ensures begins { λ r. ⌜ formula-at nth (reads (now (tokens .entry))) ≡ formula-at 0 (joins (r .0) (now (r .1)) (reads (now (r .1)))) ⌝ }
-    ensures operands { λ r. ⌜ ((k : ℕ) → k < needs (r .0) → isSome (formula-at k (reads (now (r .1)))) ≡ true) ⌝ }
-{
-    read_operand(tokens, nth).unwrap()
-}
-
 // Writes the formula that stands after `nth` others.
 fn write_operand<W: fmt::Write>(
     tokens: &[u64],
@@ -113,7 +103,9 @@ fn write_operand<W: fmt::Write>(
     requires { ⌜ isSome (formula-at nth (reads (now tokens))) ≡ true ⌝ }
     ensures { λ r. ⌜ Shows took (now (f .entry)) r (mapped (text-in inside) (formula-at nth (reads (now (tokens .entry))))) (now (f .exit)) ⌝ }
 {
-    let (token, rest) = begin(tokens, nth);
+    let Some((token, rest)) = read_operand(tokens, nth) else {
+        unreachable()
+    };
     let (open, close) = parentheses(inside);
     match token {
         Token::Number(n) => write!(f, "{n}"),

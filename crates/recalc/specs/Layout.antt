@@ -58,10 +58,10 @@ size-in xs = record { rows = rows-in xs; cols = cols-in xs }
 abbrev pub checked : List ℕ → Result Size Refusal
 checked xs =
     cond (within max-rows (rows-in xs))
-        (cond (within max-columns (cols-in xs))
-            (cond (leb (sheet-len (rows-in xs * cols-in xs)) (length xs)) (unless-malformed (first-malformed 0 (rows-in xs * cols-in xs) xs) (size-in xs)) (Err (Short (length xs))))
-            (Err Columns))
-        (Err Rows)
+    (cond (within max-columns (cols-in xs))
+    (cond (leb (sheet-len (rows-in xs * cols-in xs)) (length xs)) (unless-malformed (first-malformed 0 (rows-in xs * cols-in xs) xs) (size-in xs)) (Err (Short (length xs))))
+    (Err Columns))
+    (Err Rows)
 
 -- what is known of a sheet that was not refused, besides that its cells are well formed
 pub record Sized (xs : List ℕ) (s : Size) : Type 0 where

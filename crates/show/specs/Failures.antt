@@ -1,4 +1,4 @@
--- What is shown of a text, or why there is nothing to show. Assumes nothing: these are definitions.
+-- What is listed of a text, or why there is nothing to list. Assumes nothing: these are definitions.
 use mathlib.Core.Path.{_≡_}
 use mathlib.Core.List.{List}
 use Prim.Native.Nat.{ℕ}
@@ -24,16 +24,16 @@ unless-refused (Ok size) lines = Ok lines
 unless-refused (Err r) lines = Err (Sheet r)
 
 -- of a sheet: its lines, or the first refusal that applies
-abbrev pub sheet-shown : List ℕ → Result (List ℕ) Failure
-sheet-shown xs = unless-refused (checked xs) (listing xs)
+abbrev pub sheet-listed : List ℕ → Result (List ℕ) Failure
+sheet-listed xs = unless-refused (checked xs) (listing xs)
 
 abbrev pub unless-no-number : Result (List ℕ) ℕ → Result (List ℕ) Failure
-unless-no-number (Ok ns) = sheet-shown ns
+unless-no-number (Ok ns) = sheet-listed ns
 unless-no-number (Err word) = Err (Text (NotANumber word))
 
 -- of a text: those of the sheet whose numbers it gives
-abbrev pub text-shown : List ℕ → Result (List ℕ) Failure
-text-shown bs = unless-no-number (numbers-of bs)
+abbrev pub text-listed : List ℕ → Result (List ℕ) Failure
+text-listed bs = unless-no-number (numbers-of bs)
 
 -- a failure is the one that is told, or want of memory
 abbrev pub Fails : Result (List ℕ) Failure → Failure → Type 0

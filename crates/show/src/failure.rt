@@ -1,4 +1,4 @@
-// Why a sheet is not shown.
+// Why there is no sheet to list.
 ghost use Rattle.std.specs.declared.option.Option.the-variants.{Some};
 ghost use Rattle.show.specs.Failures.{failure-text};
 use notation::TextError;

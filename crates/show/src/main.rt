@@ -1,16 +1,18 @@
 // Shows the formulas of a sheet that standard input gives as decimal numbers.
 mod failure;
+mod formulas;
 mod listing;
-mod shown;
+#[cfg(test)]
+mod tests;
 
 use crate::failure::FailureDisplay;
-use crate::shown::show_text;
+use crate::formulas::list_text;
 use std::error::AnyError;
 use std::io;
 
 fn main(rt: LibcRuntime) -> Result<(), AnyError> {
     let text = io::read_to_string(rt.alloc(), rt.stdin())?;
-    match show_text(rt.alloc(), text.as_str()) {
+    match list_text(rt.alloc(), text.as_str()) {
         Ok(lines) => {
             print!(rt, "{lines}")?;
             Ok(())

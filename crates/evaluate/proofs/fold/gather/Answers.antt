@@ -15,8 +15,8 @@ loop-row-holds g c =
     let w = g .C·Cells .width (c .args .cells .now) in
     let high = c .rows .ensures .is in
     let wide = c .cols .ensures .is in
-    let rows : c .min-bottom .result - b .row ≡ min (b .row + b .rows) h - b .row = omega arith in
-    let cols : c .min-right .result - b .col ≡ min (b .col + b .cols) w - b .col = omega arith in
+    let rows : c .clip-bottom .result - b .row ≡ min (b .row + b .rows) h - b .row = omega arith in
+    let cols : c .clip-right .result - b .col ≡ min (b .col + b .cols) w - b .col = omega arith in
     let all = clipped h w (g .C·Cells .shown (c .args .cells .now)) (λ i j l. c .rows .ensures .below i j (omega arith)) (λ i j l. c .cols .ensures .beside i j (omega arith)) b in
     (λ r o x. follows-alike h w all (rw (rows, cols) at x), (omega arith, (omega arith, omega arith)))
 
@@ -25,21 +25,22 @@ returns-in-Break-tally g c =
     let b = c .args .range in
     let e = err-from-errBy (c .from-residual .result) (c .from-residual .ensures .1) in
     let all =
-        follows-stopped (gathered-row (g .C·Cells .shown (c .args .cells .now)) (b .col) (c .min-right .result - b .col)) (c .loop-row .row) (c .min-bottom .result) (c .loop-row .tally) (c .in-Break-tally .field-0 .0) (c .loop-row-test .taken) (c .in-Break-tally .ensures tt .follows) in
+    follows-stopped (gathered-row (g .C·Cells .shown (c .args .cells .now)) (b .col) (c .clip-right .result - b .col)) (c .loop-row .row) (c .clip-bottom .result) (c .loop-row .tally) (c .in-Break-tally .field-0 .0) (c .loop-row-test .taken) (c .in-Break-tally .ensures tt .follows) in
     follows-same _ (e .1 ∙ ap Err (e .2)) (c .loop-row .inv .0 _ _ all)
 
 pub loop-row-again : need.loop-row-again
 loop-row-again g c =
     let b = c .args .range in
     let t = c .in-Continue-tally .tally in
-    let within = c .in-Continue-tally .ensures tt .bounded in
-    (λ r o rest.
-    c .loop-row .inv .0 r o
-    (follows-went (gathered-row (g .C·Cells .shown (c .args .cells .now)) (b .col) (c .min-right .result - b .col)) (c .loop-row .row) (c .min-bottom .result) (c .loop-row .tally) t r _ (c .loop-row-test .taken) (c .in-Continue-tally .ensures tt .follows) rest),
-    (within .0, (omega arith, omega (arith, within .1))))
+    let within = c .in-Continue-tally .ensures tt .bounded in (
+      λ r o rest.
+          c .loop-row .inv .0 r o
+          (follows-went (gathered-row (g .C·Cells .shown (c .args .cells .now)) (b .col) (c .clip-right .result - b .col)) (c .loop-row .row) (c .clip-bottom .result) (c .loop-row .tally) t r _ (c .loop-row-test .taken) (c .in-Continue-tally .ensures tt .follows) rest),
+      (within .0, (omega arith, omega (arith, within .1))),
+    )
 
 pub returns : need.returns
 returns g c =
     let b = c .args .range in
     c .loop-row .inv .0 _ _
-    (follows-ended (gathered-row (g .C·Cells .shown (c .args .cells .now)) (b .col) (c .min-right .result - b .col)) (c .loop-row .row) (c .min-bottom .result) (c .loop-row .tally) _ (c .loop-row-test .left))
+    (follows-ended (gathered-row (g .C·Cells .shown (c .args .cells .now)) (b .col) (c .clip-right .result - b .col)) (c .loop-row .row) (c .clip-bottom .result) (c .loop-row .tally) _ (c .loop-row-test .left))

@@ -16,6 +16,6 @@ Inv-loop-row g l =
     let w = g .C·Cells .width (l .cells) in
     let left = l .range .col in
     ((r : Result Tally Stop) (o : Log)
-        → Follows h w (each (gathered-row f left (l .right - left)) (l .row) (l .bottom - l .row) (l .tally)) r (g .T·Trail .log (l .trail)) o
-        → Follows h w (gathered f (l .range)) r (g .T·Trail .log (l .entry .trail)) o)
+    → Follows h w (each (gathered-row f left (l .right - left)) (l .row) (l .bottom - l .row) (l .tally)) r (g .T·Trail .log (l .trail)) o
+    → Follows h w (gathered f (l .range)) r (g .T·Trail .log (l .entry .trail)) o)
     × (Bounded (l .tally) × ((l .row - l .range .row ≤ max-rows) × (l .tally .count ≤ max-columns * (l .row - l .range .row))))

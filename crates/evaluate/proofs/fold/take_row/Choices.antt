@@ -14,6 +14,6 @@ Inv-loop-col g l =
     let h = g .C·Cells .height (l .cells) in
     let w = g .C·Cells .width (l .cells) in
     ((r : Result Tally Stop) (o : Log)
-        → Follows h w (gathered-row f (l .col) (l .to - l .col) (l .row) (l .sum)) r (g .T·Trail .log (l .trail)) o
-        → Follows h w (gathered-row f (l .from) (l .to - l .from) (l .row) (l .entry .sum)) r (g .T·Trail .log (l .entry .trail)) o)
+    → Follows h w (gathered-row f (l .col) (l .to - l .col) (l .row) (l .sum)) r (g .T·Trail .log (l .trail)) o
+    → Follows h w (gathered-row f (l .from) (l .to - l .from) (l .row) (l .entry .sum)) r (g .T·Trail .log (l .entry .trail)) o)
     × (Bounded (l .sum) × ((l .col - l .from ≤ max-columns) × (l .sum .count ≤ l .entry .sum .count + (l .col - l .from))))

@@ -14,6 +14,6 @@ pub returns-else-place-rows : need.returns-else-place-rows
 returns-else-place-rows g c =
     let high = c .rows .ensures .is in
     elim (c .else-place-rows .came) [
-      else-place-rows·by·then-place-rows·else-place-cols w ↦ let wide = w .cols .ensures .is in noted-outside _ _ (c .args .place) _ (inr (omega arith))
-    | else-place-rows·by·else-place-rows w ↦ noted-outside _ _ (c .args .place) _ (inl (omega arith))
+      | else-place-rows·by·then-place-rows·else-place-cols w ↦ let wide = w .cols .ensures .is in noted-outside _ _ (c .args .place) _ (inr (omega arith))
+      | else-place-rows·by·else-place-rows w ↦ noted-outside _ _ (c .args .place) _ (inl (omega arith))
     ]

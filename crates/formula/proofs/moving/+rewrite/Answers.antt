@@ -37,8 +37,8 @@ returns g t c =
     let five : length front ≡ token-len = ap length is ∙ length-numbers (moved-token m n (c .in-Some .token)) in
     let rest : c .rewrite .last .tokens ≡ moved-row m n (drop token-len xs) = c .rewrite .ensures .row ∙ ap (moved-row m n) (rest-front xs front five) in
     let all =
-        put-front xs front (c .rewrite .last .tokens) five
-        ∙ ap (λ a. a ++ c .rewrite .last .tokens) is
-        ∙ ap (λ r. numbers (moved-token m n (c .in-Some .token)) ++ r) (rest ∙ ap (moved-row m n) (begins xs _ _ d .rest))
-        ∙ sym (row-some m n xs (c .in-Some .field-0-1 .now) (c .in-Some .token) d) in
+    put-front xs front (c .rewrite .last .tokens) five
+    ∙ ap (λ a. a ++ c .rewrite .last .tokens) is
+    ∙ ap (λ r. numbers (moved-token m n (c .in-Some .token)) ++ r) (rest ∙ ap (moved-row m n) (begins xs _ _ d .rest))
+    ∙ sym (row-some m n xs (c .in-Some .field-0-1 .now) (c .in-Some .token) d) in
     record { row = all; formula = both m n xs _ all }
