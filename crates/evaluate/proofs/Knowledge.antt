@@ -3,7 +3,6 @@ use mathlib.Core.Path.{_≡_, refl, sym, ap, _∙_}
 use mathlib.Core.Bool.{Bool, true, false, cond}
 use mathlib.Core.List.{List, [], _∷_, _++_}
 use Prim.Native.Nat.{ℕ}
-use native.Mathlib.Omega.{arith}
 use Rattle.std.specs.Options.{orOther}
 use Rattle.std.specs.declared.option.Option.{Option}
 use Rattle.std.specs.declared.option.Option.the-variants.{Some, None}
@@ -11,7 +10,6 @@ use Rattle.std.specs.declared.result.Result.{Result}
 use Rattle.std.specs.declared.result.Result.the-variants.{Ok, Err}
 use Rattle.formula.specs.declared.token.CellRef.{CellRef}
 use Rattle.formula.specs.Formula.{Formula}
-use Rattle.evaluate.specs.declared.value.CellError.the-variants.{DivideByZero, OutOfRange, Lost, Cycle}
 use Rattle.evaluate.specs.declared.value.Value.{Value}
 use Rattle.evaluate.specs.declared.value.Value.the-variants.{Empty, Number, Error}
 use Rattle.evaluate.specs.declared.stop.Stop.{Stop}

@@ -6,7 +6,7 @@ use Prim.Native.Nat.{ℕ}
 use native.Mathlib.Omega.{arith}
 use lib.Dec.{ltb}
 use Rattle.std.specs.declared.option.Option.{Option}
-use Rattle.std.specs.declared.option.Option.the-variants.{Some, None}
+use Rattle.std.specs.declared.option.Option.the-variants.{Some}
 use Rattle.std.specs.declared.result.Result.{Result}
 use Rattle.std.specs.declared.result.Result.the-variants.{Ok, Err}
 use Rattle.formula.specs.declared.token.Operator.{Operator}
@@ -14,7 +14,7 @@ use Rattle.formula.specs.Formula.{Formula, number, binary, if-less}
 use Rattle.formula.specs.Reading.{Read, two, four, formula-at}
 use Rattle.evaluate.specs.declared.value.Value.{Value}
 use Rattle.evaluate.specs.declared.stop.Stop.{Stop}
-use Rattle.evaluate.specs.Traces.{Trace, ends, then}
+use Rattle.evaluate.specs.Traces.{ends, then}
 use Rattle.evaluate.specs.Evaluation.{applied, trace}
 use Rattle.evaluate.specs.Trails.{Log, Follows}
 use Rattle.evaluate.proofs.Trails.{follows-then, follows-stop, follows-same, follows-ends}

@@ -1,6 +1,6 @@
 -- One way to prove a law of a formula: show it of each piece of work of which formulas are made. Assumes nothing.
 use mathlib.Core.Bool.{Bool, true, false, cond}
-use Prim.Native.Nat.{ℕ, zero, suc, _+_, _*_, _-_, _/_}
+use Prim.Native.Nat.{ℕ, zero, suc, _+_, _*_, _-_, _/_, _^_}
 use lib.Dec.{eqb, ltb}
 use Rattle.std.specs.Options.{valueOr}
 use Rattle.std.specs.declared.option.Option.{Option}
@@ -36,7 +36,7 @@ plain-cond true o q h k = h
 plain-cond false o q h k = k
 
 plain-fits : (n : ℕ) → Plain (fits n)
-plain-fits n = plain-cond (ltb n 18446744073709551616) (Ok n) (Err (stop.Error OutOfRange)) tt tt
+plain-fits n = plain-cond (ltb n (2 ^ 64)) (Ok n) (Err (stop.Error OutOfRange)) tt tt
 
 plain-applied : (op : Operator) (a b : ℕ) → Plain (applied op a b)
 plain-applied Add a b = plain-fits (a + b)

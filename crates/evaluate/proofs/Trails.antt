@@ -3,13 +3,13 @@ use mathlib.Core.Path.{_≡_, refl, sym, ap, _∙_}
 use mathlib.Core.Bool.{Bool, true, false, cond, _&&_}
 use mathlib.Core.List.{List, [], _∷_, _++_}
 use mathlib.Core.Logic.{_⊎_, inl, inr}
-use Prim.Native.Nat.{ℕ, zero, suc, _+_, _-_, _≤_, _<_}
+use Prim.Native.Nat.{ℕ, suc, _+_, _-_, _≤_, _<_}
 use native.Mathlib.Omega.{arith}
 use lib.Dec.{ltb}
+use lib.ListN.{length, length-append}
 use Rattle.std.proofs.shelf.Lists.{append-assoc, append-nil}
-use Rattle.std.proofs.shelf.Tests.{lt-ltb, le-ltb}
+use Rattle.std.proofs.shelf.Tests.{true≢false, lt-ltb, le-ltb}
 use Rattle.std.specs.declared.option.Option.{Option}
-use Rattle.std.specs.declared.option.Option.the-variants.{Some, None}
 use Rattle.std.specs.declared.result.Result.{Result}
 use Rattle.std.specs.declared.result.Result.the-variants.{Ok, Err}
 use Rattle.formula.specs.declared.token.CellRef.{CellRef}
@@ -19,14 +19,31 @@ use Rattle.evaluate.specs.Traces.{Trace, ends, seen, look, bind, looks-on, the
 use Rattle.evaluate.specs.Trails.{inside, Log, Kept, Follows}
 
 kept-none : (o : Log) → Kept o [] o
-kept-none o = record { stem = ([], sym (append-nil (o .places))); whole = λ h. (h, sym (append-nil (o .places))) }
+kept-none o =
+    record {
+      stem = ([], sym (append-nil (o .places)));
+      room = omega arith;
+      whole = λ h. (h, sym (append-nil (o .places)));
+      short = λ h k. absurd (true≢false (sym h ∙ k));
+    }
 
 kept-append : (a b c : Log) (ps qs : List CellRef) → Kept a ps b → Kept b qs c → Kept a (ps ++ qs) c
 kept-append a b c ps qs k l =
     record {
       stem = (k .stem .0 ++ l .stem .0, l .stem .1 ∙ ap (λ us. us ++ l .stem .0) (k .stem .1) ∙ append-assoc (a .places) (k .stem .0) (l .stem .0));
+      room = let m = k .room in let n = l .room in omega arith;
       whole = λ h. let m = l .whole h in let n = k .whole (m .0) in (n .0, m .1 ∙ ap (λ us. us ++ qs) (n .1) ∙ append-assoc (a .places) ps qs);
+      short = λ h e. simp length-append (go h e (b .whole) refl);
     }
+  where
+    -- the room was used up by the first places, or by the second
+    go : a .whole ≡ true → c .whole ≡ false → (w : Bool) → b .whole ≡ w → a .room < length (a .places) + (length ps + length qs)
+    go h e false d = let m = k .short h d in omega arith
+    go h e true d =
+        let m = l .short d e in
+        let n = k .room in
+        let long : length (b .places) ≡ length (a .places) + length ps = ap length (k .whole d .1) ∙ length-append (a .places) ps in
+        omega arith
 
 pub inside-append : (h w : ℕ) (ps qs : List CellRef) → inside h w (ps ++ qs) ≡ inside h w ps ++ inside h w qs
 unfolding inside

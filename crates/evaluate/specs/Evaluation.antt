@@ -1,7 +1,7 @@
 -- What a formula comes to, worked out from left to right. Assumes nothing: these are definitions.
 use mathlib.Core.Bool.{cond}
 use mathlib.Core.List.{List}
-use Prim.Native.Nat.{ℕ, max, _+_, _*_, _-_, _/_}
+use Prim.Native.Nat.{ℕ, max, _+_, _*_, _-_, _/_, _^_}
 use lib.Dec.{eqb, ltb}
 use Rattle.std.specs.Options.{valueOr}
 use Rattle.std.specs.declared.option.Option.{Option}
@@ -26,7 +26,7 @@ use Rattle.evaluate.specs.Traces.{Trace, ends, look, then, each}
 
 -- a number of 64 bits
 abbrev pub fits : ℕ → Result ℕ Stop
-fits n = cond (ltb n 18446744073709551616) (Ok n) (Err (stop.Error OutOfRange))
+fits n = cond (ltb n (2 ^ 64)) (Ok n) (Err (stop.Error OutOfRange))
 
 abbrev pub applied : Operator → ℕ → ℕ → Result ℕ Stop
 applied Add a b = fits (a + b)

@@ -9,7 +9,7 @@ use Rattle.evaluate.specs.declared.value.CellError.{CellError}
 use Rattle.evaluate.specs.declared.value.CellError.the-variants.{Cycle}
 use Rattle.evaluate.specs.declared.value.Value.{Value}
 use Rattle.evaluate.specs.declared.value.Value.the-variants.{Empty, Error}
-use Rattle.evaluate.specs.Evaluation.{trace, attempt, known, looked-at, evaluated}
+use Rattle.evaluate.specs.Evaluation.{attempt, known, looked-at, evaluated}
 use Rattle.evaluate.specs.Knowledge.{In, hidden, first-in, ends-at, Within, Stays, Wanting}
 
 -- work from a part of what the cells show ends at the first place looked at that is hidden, and else it ends as it does where all is known

@@ -1,7 +1,7 @@
 // What a formula comes to, and the places that it looks at.
 ghost use mathlib.Core.Path.{_≡_};
 ghost use Rattle.std.specs.Options.{mapped};
-ghost use Rattle.std.specs.Of.Vec.{vec-items};
+ghost use Rattle.std.specs.Of.Vec.{vec-items, vec-cap};
 ghost use Rattle.formula.specs.Reading.{spelled};
 ghost use Rattle.evaluate.specs.Evaluation.{attempt};
 ghost use Rattle.evaluate.specs.Looking.{Lists};
@@ -27,13 +27,13 @@ pub fn evaluate<C: Cells>(tokens: &[u64], cells: &C) -> Option<Result<u64, Stop>
     Some(work(tokens, 0, cells, &mut Untold))
 }
 
-// The same, and the places of the sheet that the formula looks at are added to the list, in order; where that is refused, the list is as it was.
+// The same, and the places of the sheet that the formula looks at are added to the list, in order. A refusal leaves the list as it was, and where the list has room it does not come.
 pub fn looks<C: Cells>(
     tokens: &[u64],
     cells: &C,
     places: &mut Vec<CellRef>,
 ) -> Result<Result<u64, Stop>, Unlisted>
-    ensures { λ r. ⌜ Lists (shown (now (cells .entry))) (height (now (cells .entry))) (width (now (cells .entry))) (spelled (now (tokens .entry))) r (vec-items (now (places .entry))) (vec-items (now (places .exit))) ⌝ }
+    ensures { λ r. ⌜ Lists (shown (now (cells .entry))) (height (now (cells .entry))) (width (now (cells .entry))) (spelled (now (tokens .entry))) (vec-cap (now (places .entry))) r (vec-items (now (places .entry))) (vec-items (now (places .exit))) ⌝ }
 {
     if !is_formula(tokens) {
         return Err(Unlisted::Malformed);

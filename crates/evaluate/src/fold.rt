@@ -3,7 +3,7 @@ ghost use mathlib.Core.Path.{_≡_};
 ghost use Prim.Native.Nat.{min, _+_, _-_, _≤_, _<_};
 ghost use Rattle.std.specs.Vec.{made};
 ghost use Rattle.formula.specs.Formula as formula;
-ghost use Rattle.evaluate.specs.Limits.{max-rows, max-columns};
+ghost use Rattle.evaluate.specs.Limits.{max-columns, max-cells};
 ghost use Rattle.evaluate.specs.Traces.{seen};
 ghost use Rattle.evaluate.specs.Evaluation.{counted, gathered-row, gathered, finished, trace};
 ghost use Rattle.evaluate.specs.Trails.{Follows, Bounded};
@@ -19,7 +19,7 @@ use formula::Range;
 
 // A tally with what one cell shows.
 fn take_in(tally: Tally, place: CellRef, value: Option<Value>) -> Result<Tally, Stop>
-    requires { ⌜ Bounded tally ⌝ ∗ ⌜ tally .count < 1000 ⌝ }
+    requires { ⌜ Bounded tally ⌝ ∗ ⌜ tally .count < max-cells ⌝ }
     ensures is { λ r. ⌜ r ≡ seen place value (counted tally) ⌝ }
     ensures bounded { λ r. ⌜ made r (λ t. Bounded t × (t .count ≤ tally .count + 1)) ⌝ }
 {
@@ -44,7 +44,7 @@ fn take_row<C: Cells, T: Trail>(
     tally: Tally,
     trail: &mut T,
 ) -> Result<Tally, Stop>
-    requires room { ⌜ Bounded tally ⌝ ∗ ⌜ tally .count ≤ 480 ⌝ }
+    requires room { ⌜ Bounded tally ⌝ ∗ ⌜ tally .count + max-columns ≤ max-cells ⌝ }
     requires within { ⌜ row < height (now cells) ⌝ ∗ ⌜ to ≤ width (now cells) ⌝ ∗ ⌜ width (now cells) ≤ max-columns ⌝ }
     ensures follows { λ r. ⌜ Follows (height (now (cells .entry))) (width (now (cells .entry))) (gathered-row (shown (now (cells .entry))) from (to - from) row tally) r (log (now (trail .entry))) (log (now (trail .exit))) ⌝ }
     ensures bounded { λ r. ⌜ made r (λ t. Bounded t × (t .count ≤ tally .count + max-columns)) ⌝ }

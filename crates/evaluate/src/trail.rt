@@ -1,7 +1,7 @@
 // Where the places that a formula looks at are noted.
 ghost use mathlib.Core.Bool.{false, not};
 ghost use mathlib.Core.List.{[], _∷_};
-ghost use Rattle.std.specs.Of.Vec.{vec-items};
+ghost use Rattle.std.specs.Of.Vec.{vec-items, vec-cap};
 ghost use Rattle.evaluate.specs.Trails.{Log, Kept};
 use formula::CellRef;
 
@@ -17,7 +17,7 @@ pub trait Trail {
 pub struct Untold;
 
 pub impl Trail for Untold as UntoldTrail {
-    ghost log = { λ _. record { places = []; whole = false } };
+    ghost log = { λ _. record { places = []; room = 0; whole = false } };
 
     fn note(&mut self, _place: CellRef) {}
 }
@@ -30,7 +30,7 @@ pub struct Listed {
 }
 
 pub impl Trail for Listed as ListedTrail {
-    ghost log = { λ s. record { places = vec-items (s .places); whole = not (s .full) } };
+    ghost log = { λ s. record { places = vec-items (s .places); room = vec-cap (s .places); whole = not (s .full) } };
 
     fn note(&mut self, place: CellRef) {
         if !self.full {

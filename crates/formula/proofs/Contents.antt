@@ -1,12 +1,12 @@
 -- A formula stored in a cell. Assumes nothing.
 use mathlib.Core.Path.{_≡_, refl, sym, ap, _∙_}
-use mathlib.Core.Bool.{true, false, cond}
+use mathlib.Core.Bool.{true, false}
 use mathlib.Core.List.{List, [], _∷_, _++_}
 use Prim.Native.Nat.{ℕ, zero, suc, _+_, _-_, _*_, _/_, _≤_, _<_}
 use native.Mathlib.Omega.{arith}
 use lib.Dec.{leb, ltb}
 use borrow.Rule.Slice.PartMut.{putMid}
-use lib.ListN.{length, getD, set, take, drop, replicate, length-append, length-drop, length-replicate}
+use lib.ListN.{length, set, take, drop, replicate, length-append, length-drop, length-replicate}
 use Rattle.std.proofs.shelf.Lists.{append-assoc, take-at, drop-at, drop-drop, length-take-le}
 use Rattle.std.proofs.shelf.Tests.{le-leb, le-ltb}
 use Rattle.std.specs.declared.option.Option.the-variants.{Some, None}

@@ -1,6 +1,6 @@
 -- Where the operands of a token stand. Assumes nothing.
 use mathlib.Core.Path.{_≡_, refl, sym, ap, _∙_}
-use mathlib.Core.Bool.{true, false}
+use mathlib.Core.Bool.{true}
 use mathlib.Core.List.{List, [], _∷_}
 use Prim.Native.Nat.{ℕ, zero, suc, _+_, _*_, _≤_, _<_}
 use native.Mathlib.Omega.{arith}
@@ -12,7 +12,7 @@ use Rattle.formula.specs.declared.token.Token.{Token}
 use Rattle.formula.specs.declared.token.Token.the-variants.{Number, Cell, Fold, Binary, IfLess}
 use Rattle.formula.specs.Layout.{token-len}
 use Rattle.formula.specs.Tokens.{needs, decoded}
-use Rattle.formula.specs.Formula.{Formula, number, cell, fold, binary, if-less}
+use Rattle.formula.specs.Formula.{Formula, binary, if-less}
 use Rattle.formula.specs.Reading.{Read, two, four, joins, reads, rest-at, after, begun, operand-of, formula-at, Operand}
 use Rattle.formula.proofs.Steps.{Begins, begins, by-token, after-step, reads-step, reads-none}
 

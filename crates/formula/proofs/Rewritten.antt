@@ -1,5 +1,5 @@
 -- A formula rewritten where it stands. Assumes nothing.
-use mathlib.Core.Path.{_≡_, refl, sym, ap, _∙_}
+use mathlib.Core.Path.{_≡_, refl, ap, _∙_}
 use mathlib.Core.Bool.{Bool, true, false, cond}
 use mathlib.Core.List.{List, [], _∷_, _++_, map}
 use Prim.Native.Nat.{ℕ, _+_, _-_}
@@ -17,7 +17,7 @@ use Rattle.formula.specs.declared.token.Token.{Token}
 use Rattle.formula.specs.declared.token.Token.the-variants.{Number, Cell, Fold, Binary, IfLess}
 use Rattle.formula.specs.Layout.{token-len, formula-len}
 use Rattle.formula.specs.Tokens.{numbers, decoded}
-use Rattle.formula.specs.Formula.{Formula, number, cell, fold, binary, if-less}
+use Rattle.formula.specs.Formula.{Formula}
 use Rattle.formula.specs.Spelling.{Spells, a-number, a-cell, a-fold, an-operation, a-choice}
 use Rattle.formula.specs.Reading.{Read, read, joins, reads, ends, whole, spelled}
 use Rattle.formula.specs.Writing.{writes}

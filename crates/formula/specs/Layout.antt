@@ -10,8 +10,8 @@ max-tokens = 12
 
 -- the longest formula
 abbrev pub formula-len : ℕ
-formula-len = 60
+formula-len = token-len * max-tokens
 
 -- a cell: how many tokens its formula has, and room for the longest
 abbrev pub cell-len : ℕ
-cell-len = 61
+cell-len = 1 + formula-len

@@ -1,5 +1,5 @@
 -- A formula written out in tokens. Assumes nothing: these are definitions.
-use mathlib.Core.List.{List, [], _∷_, _++_}
+use mathlib.Core.List.{List, _++_}
 use Prim.Native.Nat.{ℕ, _+_}
 use Rattle.formula.specs.declared.token.Token.the-variants.{Number, Cell, Fold, Binary, IfLess}
 use Rattle.formula.specs.Tokens.{numbers}

@@ -1,4 +1,4 @@
-use mathlib.Core.Path.{_≡_, sym, ap, _∙_}
+use mathlib.Core.Path.{ap, _∙_}
 use Rattle.formula.specs.Reading.{joins, reads, formula-at}
 use Rattle.evaluate.proofs.Operands.{comes-number, right-stops, choice-stops, both-applied, branch-taken}
 use Rattle.evaluate.proofs.work.+work.Needs as need

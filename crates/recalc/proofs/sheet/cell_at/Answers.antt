@@ -1,4 +1,4 @@
-use mathlib.Core.Path.{_≡_, sym, ap, _∙_}
+use mathlib.Core.Path.{_≡_, ap, _∙_}
 use mathlib.Core.List.{List}
 use Prim.Native.Nat.{ℕ, _+_, _-_, _<_}
 use native.Mathlib.Omega.{arith}
@@ -6,7 +6,7 @@ use lib.ListN.{length, take, drop, length-take, length-drop}
 use Rattle.std.proofs.shelf.Tests.{lt-ltb}
 use Rattle.formula.specs.Layout.{cell-len}
 use Rattle.formula.specs.Cells.{malformed, content}
-use Rattle.recalc.specs.Layout.{header-len, sheet-len, cell-numbers}
+use Rattle.recalc.specs.Layout.{sheet-len, cell-numbers}
 use Rattle.recalc.proofs.sheet.cell_at.Needs as need
 
 short : (xs : List ℕ) → length xs < cell-len → malformed ≡ content xs

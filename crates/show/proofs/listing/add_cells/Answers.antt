@@ -1,7 +1,6 @@
-use mathlib.Core.Path.{_≡_, ap, _∙_}
+use mathlib.Core.Path.{ap, _∙_}
 use mathlib.Core.List.{_++_}
 use Prim.Native.Nat.{_*_, _/_, _%_}
-use native.Mathlib.Omega.{arith}
 use Rattle.std.specs.Of.String.{string-bytes}
 use Rattle.show.specs.Listing.{line-of}
 use Rattle.show.proofs.Lines.{line-added, lines-end}
