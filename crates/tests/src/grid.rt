@@ -39,7 +39,7 @@ pub impl Cells for Grid as GridCells {
 }
 
 // 5 . 18446744073709551615 / 7 by-nothing ring / 0 unknown lost
-pub fn sample() -> Grid {
+pub(crate) fn sample() -> Grid {
     Grid {
         values: [
             Some(Value::Number(5)),
