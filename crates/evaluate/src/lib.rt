@@ -27,3 +27,4 @@ pub use stop::Stop;
 pub use unlisted::Unlisted;
 pub use value::CellError;
 pub use value::Value;
+pub use value::ValuePartialEq;

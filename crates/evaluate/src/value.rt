@@ -4,7 +4,7 @@ ghost use Rattle.std.specs.declared.option.Option.the-variants.{Some};
 ghost use lib.ListN.{getD};
 ghost use Rattle.evaluate.specs.Values.{error-number, error-in, value-numbers, value-in};
 
-#[derive(Clone, Copy)]
+#[derive(Clone, Copy, PartialEq, Eq)]
 pub enum CellError {
     DivideByZero,
     // Below 0 or above 2^64 - 1.
@@ -15,7 +15,7 @@ pub enum CellError {
     Cycle,
 }
 
-#[derive(Clone, Copy)]
+#[derive(Clone, Copy, PartialEq, Eq)]
 pub enum Value {
     Empty,
     Number(u64),

@@ -1,1 +1,15 @@
 pub mod Malformed
+pub mod Counting
+pub mod Settling
+pub mod Cycles
+pub mod Table
+pub mod Moves
+pub mod Turns
+pub mod Starts
+pub mod Rooms
+pub mod Tries
+pub mod Numbered
+pub mod SheetLaws
+pub mod Rows
+pub mod Shown
+pub mod Ways

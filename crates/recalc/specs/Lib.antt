@@ -1,2 +1,12 @@
 pub mod Refusals
 pub mod Layout
+pub mod Sheets
+pub mod Language
+pub mod Theory
+pub mod Table
+pub mod Change
+pub mod Numbered
+pub mod Filling
+pub mod Showing
+pub mod Shown
+pub mod Stair

@@ -12,6 +12,8 @@ pub enum Refusal {
     Short(usize),
     // The cell with this index, in reading order.
     Malformed(usize),
+    // A row of so many numbers is too short for what is shown.
+    NoRoom(usize),
 }
 
 impl Refusal {
@@ -23,6 +25,7 @@ impl Refusal {
             Refusal::Rows | Refusal::Columns => 1,
             Refusal::Short(_) => 3,
             Refusal::Malformed(_) => 4,
+            Refusal::NoRoom(_) => 5,
         }
     }
 
@@ -34,6 +37,7 @@ impl Refusal {
             Refusal::Columns => 1,
             Refusal::Short(length) => length,
             Refusal::Malformed(index) => index,
+            Refusal::NoRoom(length) => length,
         }
     }
 }

@@ -39,7 +39,7 @@ fn first_malformed_cell(nums: &[u64], count: usize) -> Option<usize>
 }
 
 // Where the memory ends before, as if 0 stood there.
-fn number_at(nums: &[u64], index: usize) -> u64
+pub fn number_at(nums: &[u64], index: usize) -> u64
     ensures { λ r. ⌜ r ≡ getD (now (nums .entry)) index 0 ⌝ }
 {
     if index < nums.len() { nums[index] } else { 0 }

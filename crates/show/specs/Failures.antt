@@ -1,4 +1,4 @@
--- What is listed of a text, or why there is nothing to list. Assumes nothing: these are definitions.
+-- What is seen of a text, or why there is nothing to see. Assumes nothing: these are definitions.
 use mathlib.Core.Path.{_≡_}
 use mathlib.Core.List.{List}
 use Prim.Native.Nat.{ℕ}
@@ -13,27 +13,28 @@ use Rattle.recalc.specs.Refusals.{refusal-text}
 use Rattle.recalc.specs.Layout.{checked}
 use Rattle.show.specs.declared.failure.Failure.{Failure}
 use Rattle.show.specs.declared.failure.Failure.the-variants.{Text, Sheet}
-use Rattle.show.specs.Listing.{listing}
+use Rattle.show.specs.declared.view.View.{View}
+use Rattle.show.specs.Views.{view-text}
 
 abbrev pub failure-text : Failure → List ℕ
 failure-text (Text e) = error-text e
 failure-text (Sheet r) = refusal-text r
 
-abbrev pub unless-refused : Result Size Refusal → List ℕ → Result (List ℕ) Failure
-unless-refused (Ok size) lines = Ok lines
-unless-refused (Err r) lines = Err (Sheet r)
+abbrev pub unless-refused : View → List ℕ → Result Size Refusal → Result (List ℕ) Failure
+unless-refused view xs (Ok size) = Ok (view-text view xs size)
+unless-refused view xs (Err r) = Err (Sheet r)
 
--- of a sheet: its lines, or the first refusal that applies
-abbrev pub sheet-listed : List ℕ → Result (List ℕ) Failure
-sheet-listed xs = unless-refused (checked xs) (listing xs)
+-- of a sheet: its view, or the first refusal that applies
+abbrev pub sheet-seen : View → List ℕ → Result (List ℕ) Failure
+sheet-seen view xs = unless-refused view xs (checked xs)
 
-abbrev pub unless-no-number : Result (List ℕ) ℕ → Result (List ℕ) Failure
-unless-no-number (Ok ns) = sheet-listed ns
-unless-no-number (Err word) = Err (Text (NotANumber word))
+abbrev pub unless-no-number : View → Result (List ℕ) ℕ → Result (List ℕ) Failure
+unless-no-number view (Ok ns) = sheet-seen view ns
+unless-no-number view (Err word) = Err (Text (NotANumber word))
 
--- of a text: those of the sheet whose numbers it gives
-abbrev pub text-listed : List ℕ → Result (List ℕ) Failure
-text-listed bs = unless-no-number (numbers-of bs)
+-- of a text: that of the sheet whose numbers it gives
+abbrev pub text-seen : View → List ℕ → Result (List ℕ) Failure
+text-seen view bs = unless-no-number view (numbers-of bs)
 
 -- a failure is the one that is told, or want of memory
 abbrev pub Fails : Result (List ℕ) Failure → Failure → Type 0

@@ -1,10 +1,11 @@
 -- The formulas of a sheet as text. Assumes nothing: these are definitions.
 use mathlib.Core.List.{List, [], _++_}
-use Prim.Native.Nat.{ℕ, zero, suc, _*_, _/_, _%_}
+use Prim.Native.Nat.{ℕ, _*_, _/_, _%_}
 use lib.Chars.{codes}
 use Rattle.formula.specs.Cells.{Content, blank, holds, malformed, content}
 use Rattle.notation.specs.Notation.{place-text, formula-text}
 use Rattle.recalc.specs.Layout.{rows-in, cols-in, cell-numbers}
+use Rattle.show.specs.Texts.{texts}
 
 -- a place, and the formula there
 abbrev pub formula-line : ℕ → ℕ → List ℕ → List ℕ
@@ -21,9 +22,8 @@ abbrev pub cell-line : ℕ → List ℕ → ℕ → List ℕ
 cell-line w xs k = line-of (k / w) (k % w) (content (cell-numbers k xs))
 
 -- n cells, from cell k on
-unfoldable pub cell-lines : ℕ → List ℕ → ℕ → ℕ → List ℕ
-cell-lines w xs k zero = []
-cell-lines w xs k (suc n) = cell-line w xs k ++ cell-lines w xs (suc k) n
+abbrev pub cell-lines : ℕ → List ℕ → ℕ → ℕ → List ℕ
+cell-lines w xs k n = texts (cell-line w xs) k n
 
 -- the whole sheet, in reading order
 abbrev pub listing : List ℕ → List ℕ

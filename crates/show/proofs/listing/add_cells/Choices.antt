@@ -1,3 +1,4 @@
+-- The lines so far, and then those of the cells that are left.
 use mathlib.Core.Path.{_≡_}
 use mathlib.Core.List.{_++_}
 use Prim.Native.Nat.{_-_, _*_}
@@ -5,7 +6,6 @@ use Rattle.std.specs.Of.String.{string-bytes}
 use Rattle.show.specs.Listing.{cell-lines}
 use Rattle.show.proofs.listing.add_cells.Given as given
 
--- the lines so far, and then those of the cells that are left
 abbrev pub Inv-loop-index : given.InvT-loop-index
 Inv-loop-index l =
     string-bytes (l .lines) ++ cell-lines (l .size .cols) (l .nums) (l .index) (l .size .rows * l .size .cols - l .index)
