@@ -20,21 +20,12 @@ use std::env;
 use std::error::AnyError;
 use std::io;
 
-fn view_named(word: &str) -> Option<View> {
-    match word {
-        "values" => Some(View::Values),
-        "formulas" => Some(View::Formulas),
-        "table" => Some(View::Table),
-        _ => None,
-    }
-}
-
 // The view that the first argument names; without one, the values.
 fn view_asked(rt: &LibcRuntime) -> Result<Option<View>, AnyError> {
     let mut args = env::args(rt)?;
     let _ = args.next();
     match args.next() {
-        Some(word) => Ok(view_named(word.as_str())),
+        Some(word) => Ok(View::named(word.as_str())),
         None => Ok(Some(View::Values)),
     }
 }

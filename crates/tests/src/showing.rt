@@ -1,4 +1,6 @@
 // Whole sheets: cycles of every length, and the largest sheets in the worst order.
+use notation::TextErrorDebug;
+use notation::parse_numbers;
 use recalc::show_sheet;
 use std::alloc::AllocError;
 use std::alloc::Global;
@@ -67,67 +69,12 @@ fn cycles_of_one_and_two(rt: LibcRuntime) -> Result<(), Fail> {
 // If 1 is less than 2, then 5 or else the cell itself; and the other way round.
 #[test]
 fn a_branch_not_taken_is_no_cycle(rt: LibcRuntime) -> Result<(), Fail> {
-    let mut sheet = new_sheet(rt.alloc(), 1, 2)?;
-    add_cell(
-        &mut sheet,
-        &[
-            13,
-            0,
-            0,
-            0,
-            0,
-            0,
-            1,
-            0,
-            0,
-            0,
-            0,
-            2,
-            0,
-            0,
-            0,
-            0,
-            5,
-            0,
-            0,
-            0,
-            1,
-            0,
-            0,
-            0,
-            0,
-        ],
-    )?;
-    add_cell(
-        &mut sheet,
-        &[
-            13,
-            0,
-            0,
-            0,
-            0,
-            0,
-            2,
-            0,
-            0,
-            0,
-            0,
-            1,
-            0,
-            0,
-            0,
-            0,
-            5,
-            0,
-            0,
-            0,
-            1,
-            0,
-            1,
-            0,
-            0,
-        ],
-    )?;
+    let heap = rt.alloc();
+    let mut sheet = new_sheet(heap, 1, 2)?;
+    let not_taken = parse_numbers(heap, "13 0 0 0 0 0 1 0 0 0 0 2 0 0 0 0 5 0 0 0 1 0 0 0 0")?;
+    add_cell(&mut sheet, not_taken.as_slice())?;
+    let taken = parse_numbers(heap, "13 0 0 0 0 0 2 0 0 0 0 1 0 0 0 0 5 0 0 0 1 0 1 0 0")?;
+    add_cell(&mut sheet, taken.as_slice())?;
     shows(sheet.as_slice(), &[1, 5, 2, 4])
 }
 
