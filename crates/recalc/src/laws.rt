@@ -24,7 +24,7 @@ pub fn cycles_are_exact() -> u8
     0
 }
 
-// A small sheet shows what one works out by hand: two products, their sum, and the sum but at least 500.
+// A stair shows what one works out by hand, with a row inserted, written to, deleted, with what is lost and with a cycle.
 pub fn stair_shows() -> u8
     ensures { λ _. ⌜ Stair-shows ⌝ }
 {
