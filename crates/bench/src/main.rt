@@ -1,6 +1,8 @@
 // Compares, on a sheet of 40 x 12 formulas, a write that recalculates only what has to be with showing the whole sheet anew.
 // Run by hand: bench TURNS. It prints a line for each workload: its name, the nanoseconds of a write and of showing anew, and
 // what the last cell of the chain showed, summed up, by either way.
+#![tactic(auto)]
+
 mod chains;
 mod turns;
 

@@ -1,4 +1,6 @@
 // A write into a lent sheet and the row of values that belongs to it, working out again only what has to be.
+#![tactic(auto)]
+
 mod changes;
 mod check;
 mod formulas;

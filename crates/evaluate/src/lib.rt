@@ -1,4 +1,6 @@
 // Working out one formula from what cells show.
+#![tactic(auto)]
+
 mod cells;
 mod display;
 mod evaluating;

@@ -1,4 +1,6 @@
 // Formulas as they stand in a lent row: five numbers a token, each token before the formulas that it needs.
+#![tactic(auto)]
+
 mod cell;
 mod laws;
 mod layout;

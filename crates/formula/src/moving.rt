@@ -25,7 +25,7 @@ pub trait Moves {
 
 // What is lost stays lost.
 fn move_token<M: Moves>(token: Token, moves: &M) -> Token
-    ensures { result ≡ moved_token (moved moves.now) (resized moves.now) token }
+    ensures { result ≡ moved_token (M.moved moves.now) (M.resized moves.now) token }
 {
     match token {
         Token::Cell(Some(cell)) => Token::Cell(moves.reference(cell)),
@@ -36,8 +36,8 @@ fn move_token<M: Moves>(token: Token, moves: &M) -> Token
 
 // Every token up to the first that is none; what the row spells is rewritten with it.
 pub fn rewrite<M: Moves>(tokens: &mut [u64], moves: &M)
-    ensures row { tokens.new ≡ moved_row (moved moves.now) (resized moves.now) tokens.old }
-    ensures formula { spelled tokens.new ≡ option_map (moved_formula (moved moves.now) (resized moves.now)) (spelled tokens.old) }
+    ensures row { tokens.new ≡ moved_row (M.moved moves.now) (M.resized moves.now) tokens.old }
+    ensures formula { spelled tokens.new ≡ option_map (moved_formula (M.moved moves.now) (M.resized moves.now)) (spelled tokens.old) }
 {
     let Some((token, _)) = read_token(tokens) else {
         return;

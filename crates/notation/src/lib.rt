@@ -1,4 +1,6 @@
 // Formulas and numbers as text that people read and write.
+#![tactic(auto)]
+
 mod laws;
 mod notation;
 mod numbers;

@@ -1,4 +1,6 @@
 // Whole sheets in lent memory: how they lie there, which are refused, and what their cells show.
+#![tactic(auto)]
+
 mod display;
 mod filled;
 mod filling;

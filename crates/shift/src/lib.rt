@@ -1,4 +1,6 @@
 // Rows and columns that come and go: references, ranges, formulas, whole sheets and what they show.
+#![tactic(auto)]
+
 mod before;
 mod cells;
 mod entries;

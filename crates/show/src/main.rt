@@ -1,4 +1,6 @@
 // Shows a sheet that standard input gives as decimal numbers: its values, its formulas or both axes numbered.
+#![tactic(auto)]
+
 mod answer;
 mod cell;
 mod entry;

@@ -1,4 +1,6 @@
 // Examples: formulas read, written as text and worked out, whole sheets shown, rows and columns that come and go, and writes.
+#![tactic(auto)]
+
 #[cfg(test)]
 mod editing;
 #[cfg(test)]

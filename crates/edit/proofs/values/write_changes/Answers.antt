@@ -12,14 +12,14 @@ use Rattle.edit.proofs.Places.{places_few, places_add, places_pass}
 use Rattle.edit.proofs.Differing.{not_differs}
 use Rattle.edit.proofs.Rows.{value_written, value_left}
 use Rattle.edit.proofs.values.write_changes.Goals as goal
-use Rattle.edit.proofs.values.write_changes.Goals.{then-is-changed, else-is-changed}
+use Rattle.edit.proofs.values.write_changes.Goals.{then-is_changed, else-is_changed}
 
 pub loop-k-init : goal.loop-k-init
 unfolding places_from
 loop-k-init c = (filled_none (λ i. value_numbers (table_shows c.args.table.now i)) 2 c.args.values.now, c.requires.empty, refl)
 
-pub add-changed-requires : goal.add-changed-requires
-add-changed-requires c =
+pub add_changed-requires : goal.add_changed-requires
+add_changed-requires c =
     let f = table_differs c.args.table.now c.args.before.now in
     omega (arith, ap length c.loop-k.invariant.1, places_few c.args.cols f 0 c.loop-k.k, c.requires.few)
 
@@ -34,19 +34,19 @@ loop-k-preserved c =
     let inv = c.loop-k.invariant in
     let listed : Changes → List CellRef = λ x. vec_items x.changed in
     let other : Changes → List CellRef = λ x. vec_items x.recalculated in
-    let e = c.known-value-value.ensures in
-    let tested : f k ≡ differs c.known-value-value.result (shows vs k) = ap (λ v. differs v (shows vs k)) (sym e) in
-    elim c.if-is-changed.branch [
+    let e = c.known_value-value.ensures in
+    let tested : f k ≡ differs c.known_value-value.result (shows vs k) = ap (λ v. differs v (shows vs k)) (sym e) in
+    elim c.if-is_changed.branch [
       | then-is-changed w ↦ (
-        value_written t xs k c.loop-k.values _ n c.loop-k-test.true inv.0 (w.values-is ∙ w.put-value.ensures ∙ ap (with_value c.loop-k.values k) e),
+        value_written t xs k c.loop-k.values _ n c.loop-k-test.true inv.0 (w.values-is ∙ w.put_value.ensures ∙ ap (with_value c.loop-k.values k) e),
         ap listed w.changes-is
-            ∙ places_add c.args.cols f k _ _ _ inv.1 w.add-changed.ensures.changed w.place-of.ensures (tested ∙ sym w.if-is-changed.ensures),
-        ap other w.changes-is ∙ w.add-changed.ensures.recalculated ∙ inv.2,
+            ∙ places_add c.args.cols f k _ _ _ inv.1 w.add_changed.ensures.changed w.place_of.ensures (tested ∙ sym w.if-is_changed.ensures),
+        ap other w.changes-is ∙ w.add_changed.ensures.recalculated ∙ inv.2,
       )
       | else-is-changed w ↦ (
-        let d = not_differs _ _ (sym w.if-is-changed.ensures) in
+        let d = not_differs _ _ (sym w.if-is_changed.ensures) in
             value_left t vs xs k c.loop-k.values _ n c.loop-k-test.true c.requires.shown inv.0 (sym e ∙ d) w.values-is,
-        ap listed w.changes-is ∙ places_pass c.args.cols f k _ inv.1 (tested ∙ sym w.if-is-changed.ensures),
+        ap listed w.changes-is ∙ places_pass c.args.cols f k _ inv.1 (tested ∙ sym w.if-is_changed.ensures),
         ap other w.changes-is ∙ inv.2,
       )
     ]

@@ -32,7 +32,7 @@ returns-then-full g c =
     let held = c.replace.ensures.value in
     let long : length (vec_items c.replace.result) ≡ n = ap length (ap vec_items held) ∙ sym v.ok.0 ∙ sym c.len-before.ensures in
     refused f h w c.args.tokens.now (vec_capacity v) (vec_items v) _
-    (sym c.is-formula.ensures ∙ c.if-not-is-formula.false)
+    (sym c.is_formula.ensures ∙ c.if-not-is_formula.false)
     (λ x e.
     let t = (c.work-outcome.ensures x e).trail in
     let short = t.short refl (ap not c.if-full.true) in (

@@ -17,22 +17,22 @@ loop-row-init g c =
     let all = clipped h w (g.C.Cells.shown c.args.cells.now) (λ i j l. c.rows.ensures.below i j (omega arith)) (λ i j l. c.cols.ensures.beside i j (omega arith)) b in
     (λ r o x. follows_alike h w all (rw (rows, cols) at x), (omega arith, (omega arith, omega arith)))
 
-pub returns-in-err-tally : goal.returns-in-err-tally
-returns-in-err-tally g c =
+pub returns-in_err-tally : goal.returns-in_err-tally
+returns-in_err-tally g c =
     let b = c.args.range in
-    let e = err_from_is_err_and c.from-residual.result c.from-residual.ensures.1 in
+    let e = err_from_is_err_and c.from_residual.result c.from_residual.ensures.1 in
     let all =
-    follows_stopped (gathered_row (g.C.Cells.shown c.args.cells.now) b.col (c.clip-right.result - b.col)) c.loop-row.row c.clip-bottom.result c.loop-row.tally c.in-err-tally.field-0.0 c.loop-row-test.true c.in-err-tally.ensures.follows in
+    follows_stopped (gathered_row (g.C.Cells.shown c.args.cells.now) b.col (c.clip-right.result - b.col)) c.loop-row.row c.clip-bottom.result c.loop-row.tally c.in_err-tally.field-0.0 c.loop-row-test.true c.in_err-tally.ensures.follows in
     follows_same _ (e.1 ∙ ap Err e.2) (c.loop-row.invariant.0 _ _ all)
 
 pub loop-row-preserved : goal.loop-row-preserved
 loop-row-preserved g c =
     let b = c.args.range in
-    let t = c.in-ok-tally.tally in
-    let within = c.in-ok-tally.ensures.bounded in (
+    let t = c.in_ok-tally.tally in
+    let within = c.in_ok-tally.ensures.bounded in (
       λ r o rest.
           c.loop-row.invariant.0 r o
-          (follows_went (gathered_row (g.C.Cells.shown c.args.cells.now) b.col (c.clip-right.result - b.col)) c.loop-row.row c.clip-bottom.result c.loop-row.tally t r _ c.loop-row-test.true c.in-ok-tally.ensures.follows rest),
+          (follows_went (gathered_row (g.C.Cells.shown c.args.cells.now) b.col (c.clip-right.result - b.col)) c.loop-row.row c.clip-bottom.result c.loop-row.tally t r _ c.loop-row-test.true c.in_ok-tally.ensures.follows rest),
       (within.0, (omega arith, omega (arith, within.1))),
     )
 

@@ -18,5 +18,5 @@ returns c =
     let xs = c.args.numbers.now in
     let ts = c.args.tokens.now in
     at_spelled _ (drop cell_len xs) (spelled ts) c.requires.formula
-    (λ f e. filled xs ts c.copy-from-slice.new.self c.rewrite.new.tokens c.fill.new.self f c.requires.room e
-    c.copy-from-slice.ensures.after c.rewrite.ensures.row (c.fill.ensures.after (λ y same. same)))
+    (λ f e. filled xs ts c.copy_from_slice.new.self c.rewrite.new.tokens c.fill.new.self f c.requires.room e
+    c.copy_from_slice.ensures.after c.rewrite.ensures.row (c.fill.ensures.after (λ y same. same)))

@@ -14,12 +14,12 @@ use Rattle.formula.proofs.moving.+rewrite.Goals as goal
 both : (m : CellRef → Option CellRef) (n : Range → Option Range) (xs ys : List ℕ) → ys ≡ moved_row m n xs → spelled ys ≡ option_map (moved_formula m n) (spelled xs)
 both m n xs ys e = ap spelled e ∙ spelled_moved m n xs
 
-pub returns-in-default : goal.returns-in-default
-returns-in-default g t c =
+pub returns-in_default : goal.returns-in_default
+returns-in_default g t c =
     let m = g.M.Moves.moved c.args.moves.now in
     let n = g.M.Moves.resized c.args.moves.now in
     let xs = c.args.tokens.now in
-    let is = sym (row_none m n xs (sym c.in-default.ensures)) in
+    let is = sym (row_none m n xs (sym c.in_default.ensures)) in
     record { row = is; formula = both m n xs xs is }
 
 pub returns : goal.returns
@@ -27,9 +27,9 @@ returns g t c =
     let m = g.M.Moves.moved c.args.moves.now in
     let n = g.M.Moves.resized c.args.moves.now in
     let xs = c.args.tokens.now in
-    let front = c.copy-from-slice.new.self in
+    let front = c.copy_from_slice.new.self in
     let d = sym c.in-Some.ensures in
-    let is : front ≡ numbers (moved_token m n c.in-Some.token) = c.copy-from-slice.ensures.after ∙ c.encode-numbers.ensures.is ∙ ap numbers c.move-token.ensures in
+    let is : front ≡ numbers (moved_token m n c.in-Some.token) = c.copy_from_slice.ensures.after ∙ c.encode-numbers.ensures.is ∙ ap numbers c.move_token.ensures in
     let five : length front ≡ token_len = ap length is ∙ length_numbers (moved_token m n c.in-Some.token) in
     let rest : c.rewrite.new.tokens ≡ moved_row m n (drop token_len xs) = c.rewrite.ensures.row ∙ ap (moved_row m n) (rest_front xs front five) in
     let all =

@@ -16,12 +16,12 @@ is_operand : (n : ℕ) (xs : List ℕ) (r : Option (Token × Bor (List ℕ))) �
 is_operand n xs None e = tt
 is_operand n xs (Some p) e = operand n xs p.0 p.1.now (sym e)
 
-pub returns-in-err-skip : goal.returns-in-err-skip
-returns-in-err-skip c =
-    let e = ap (option_map {U = Token × List ℕ} (λ p. (p.0, p.1.now))) c.from-residual.ensures ∙ ap begun c.in-err-skip.ensures in
+pub returns-in_err-skip : goal.returns-in_err-skip
+returns-in_err-skip c =
+    let e = ap (option_map {U = Token × List ℕ} (λ p. (p.0, p.1.now))) c.from_residual.ensures ∙ ap begun c.in_err-skip.ensures in
     record { is = e; there = there c.args.nth c.args.tokens.now _ e; operand = is_operand c.args.nth c.args.tokens.now _ e }
 
 pub returns : goal.returns
 returns c =
-    let e = c.read-token.ensures ∙ ap begun c.in-ok-skip.ensures in
+    let e = c.read_token.ensures ∙ ap begun c.in_ok-skip.ensures in
     record { is = e; there = there c.args.nth c.args.tokens.now _ e; operand = is_operand c.args.nth c.args.tokens.now _ e }

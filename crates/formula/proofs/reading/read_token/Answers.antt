@@ -8,4 +8,4 @@ use Rattle.formula.proofs.reading.read_token.Goals as goal
 pub returns : goal.returns
 returns c =
     let xs = c.args.tokens.now in
-    rw take_rest (sym (decoded_long xs (omega (arith, ltb-false)) ∙ ap (option_map (λ t. (t, drop token_len xs))) (sym c.in-ok-token.ensures)))
+    rw take_rest (sym (decoded_long xs (omega (arith, ltb-false)) ∙ ap (option_map (λ t. (t, drop token_len xs))) (sym c.in_ok-token.ensures)))

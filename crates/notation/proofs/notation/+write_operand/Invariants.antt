@@ -2,5 +2,5 @@
 use Rattle.std.proofs.Common.{length}
 use Rattle.notation.proofs.notation.+write_operand.Given as goal
 
-abbrev pub decreases-write-operand : goal.decreases-write-operand
-decreases-write-operand g l = length l.tokens.now
+abbrev pub decreases-write_operand : goal.decreases-write_operand
+decreases-write_operand g l = length l.tokens.now

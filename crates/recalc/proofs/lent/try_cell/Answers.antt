@@ -11,5 +11,5 @@ pub returns : goal.returns
 returns c =
     let t = laid_known c.args.size.rows c.args.size.cols c.args.table.now in
     let within = subst (λ (s : Size). c.args.k < s.rows * s.cols) c.requires.size.0 c.requires.within in
-    let cell = ap (λ (x : Cell). formula_in (meant x)) (sym c.in-Formula.is) ∙ ap formula_in c.cell-at.ensures ∙ sym (nth_is c.args.nums.now c.args.k within) in
-    c.shown-as.ensures ∙ formula_tried t _ c.in-Some.end c.in-Some.ensures ∙ ap (tried_cell t) cell
+    let cell = ap (λ (x : Cell). formula_in (meant x)) (sym c.in-Formula.is) ∙ ap formula_in c.cell_at.ensures ∙ sym (nth_is c.args.nums.now c.args.k within) in
+    c.shown_as.ensures ∙ formula_tried t _ c.in-Some.end c.in-Some.ensures ∙ ap (tried_cell t) cell

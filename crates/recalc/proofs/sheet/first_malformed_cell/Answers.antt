@@ -9,7 +9,7 @@ returns-in-Malformed c =
 
 pub loop-index-preserved : goal.loop-index-preserved
 loop-index-preserved c =
-    let whole = ap is_malformed (sym c.cell-at.ensures) ∙ seen_whole c.cell-at.result c.in-default.not-Malformed in
+    let whole = ap is_malformed (sym c.cell_at.ensures) ∙ seen_whole c.cell_at.result c.in_default.not-Malformed in
     sym (goes_on c.args.nums.now c.loop-index.index c.args.count c.loop-index-test.true whole) ∙ c.loop-index.invariant
 
 pub returns : goal.returns

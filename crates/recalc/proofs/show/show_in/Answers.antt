@@ -3,4 +3,4 @@ use Rattle.recalc.specs.SheetLaws.{row_shown}
 use Rattle.recalc.proofs.show.show_in.Goals as goal
 
 pub returns : goal.returns
-returns c = row_shown (readable c.args.nums.now) c.update.new.table c.args.out.now c.write-values.new.out c.update.ensures.size c.update.ensures.known c.write-values.ensures
+returns c = row_shown (readable c.args.nums.now) c.update.new.table c.args.out.now c.write_values.new.out c.update.ensures.size c.update.ensures.known c.write_values.ensures

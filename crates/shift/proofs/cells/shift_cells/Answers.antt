@@ -11,8 +11,8 @@ use Rattle.shift.proofs.cells.shift_cells.Goals as goal
 pub loop-k-init : goal.loop-k-init
 loop-k-init c = filled_none (λ k. shifted_cell c.args.shift (entry cell_len k c.args.cells.now)) cell_len c.args.cells.now
 
-pub shift-cell-requires : goal.shift-cell-requires
-shift-cell-requires c =
+pub shift_cell-requires : goal.shift_cell-requires
+shift_cell-requires c =
     let at = cell_len * c.loop-k.k in
     let n : at + cell_len - at ≡ cell_len = omega arith in
     rw n (length-take-le cell_len (drop at c.loop-k.cells) (simp length-drop (omega (arith, c.requires.1))))

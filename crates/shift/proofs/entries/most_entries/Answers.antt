@@ -7,5 +7,5 @@ pub returns : goal.returns
 returns c =
     let few = few_cells c.args.shift c.args.size c.requires in
     let is : c.max.result ≡ max (cells_of c.args.size) (cells_of (size_after c.args.shift c.args.size)) =
-    c.max.ensures ∙ ap (λ z. max (cells_of c.args.size) (cells_of z)) c.size-after-after.ensures in
+    c.max.ensures ∙ ap (λ z. max (cells_of c.args.size) (cells_of z)) c.size_after-after.ensures in
     (is, omega (arith, is, few.0, few.1))

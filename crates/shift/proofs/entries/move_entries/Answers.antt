@@ -4,18 +4,18 @@ use Rattle.shift.specs.Entries.{cells_of, size_after, first_entry, origin_behind
 use Rattle.shift.proofs.Grids.{Cuts, cuts, put_behind, whole_grid}
 use Rattle.shift.proofs.entries.move_entries.Goals as goal
 
-parts : (c : goal.After-first-entry) → Cuts c.args.len c.args.shift c.args.size (length c.args.entries.now) c.first-entry.result
-parts c = cuts c.args.len c.args.shift c.args.size (length c.args.entries.now) c.first-entry.result c.requires.shiftable c.requires.room c.first-entry.ensures
+parts : (c : goal.After-first_entry) → Cuts c.args.len c.args.shift c.args.size (length c.args.entries.now) c.first_entry.result
+parts c = cuts c.args.len c.args.shift c.args.size (length c.args.entries.now) c.first_entry.result c.requires.shiftable c.requires.room c.first_entry.ensures
 
-pub slice-bounds-move-behind-count : goal.slice-bounds-move-behind-count
-slice-bounds-move-behind-count c = (parts c).first
+pub slice-bounds-move_behind-count : goal.slice-bounds-move_behind-count
+slice-bounds-move_behind-count c = (parts c).first
 
-pub slice-bounds-move-behind-start : goal.slice-bounds-move-behind-start
-slice-bounds-move-behind-start c = (parts c).first
+pub slice-bounds-move_behind-start : goal.slice-bounds-move_behind-start
+slice-bounds-move_behind-start c = (parts c).first
 
-pub move-behind-requires : goal.move-behind-requires
-move-behind-requires c =
-    let t = cuts c.args.len c.args.shift c.args.size (length c.args.entries.now) c.first-entry.result c.requires.shiftable c.requires.room c.first-entry.ensures in
+pub move_behind-requires : goal.move_behind-requires
+move_behind-requires c =
+    let t = cuts c.args.len c.args.shift c.args.size (length c.args.entries.now) c.first_entry.result c.requires.shiftable c.requires.room c.first_entry.ensures in
     record { shiftable = c.requires.shiftable; few = c.requires.few; before = simp (length-take, length-drop) (omega (arith, t.before)); after = simp (length-take, length-drop) (omega (arith, t.after)) }
 
 pub returns : goal.returns
@@ -24,10 +24,10 @@ returns c =
     let d = c.args.shift in
     let size = c.args.size in
     let xs = c.args.entries.now in
-    let f = c.first-entry.result in
-    let t = cuts len d size (length xs) f c.requires.shiftable c.requires.room c.first-entry.ensures in
+    let f = c.first_entry.result in
+    let t = cuts len d size (length xs) f c.requires.shiftable c.requires.room c.first_entry.ensures in
     let m = cells_of (size_after d size) - first_entry d size in
-    put_behind (len * f) xs c.move-behind.new.part t.first
-    ∙ ap (λ ys. take (len * f) xs ++ ys) (c.move-behind.ensures ∙ ap (placed len (origin_behind d size) m) (take_rest xs (len * f)))
-    ∙ ap (λ i. take (len * i) xs ++ placed len (origin_behind d size) m (drop (len * i) xs)) c.first-entry.ensures
+    put_behind (len * f) xs c.move_behind.new.part t.first
+    ∙ ap (λ ys. take (len * f) xs ++ ys) (c.move_behind.ensures ∙ ap (placed len (origin_behind d size) m) (take_rest xs (len * f)))
+    ∙ ap (λ i. take (len * i) xs ++ placed len (origin_behind d size) m (drop (len * i) xs)) c.first_entry.ensures
     ∙ whole_grid len d size xs c.requires.shiftable

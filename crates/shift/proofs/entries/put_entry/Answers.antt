@@ -20,7 +20,7 @@ returns-in-Some-2 c =
     let at = c.args.len * c.args.to in
     let from = c.args.len * c.in-Some-2.k in
     let n : from + c.args.len - from ≡ c.args.len = omega arith in
-    c.copy-within.ensures.after
+    c.copy_within.ensures.after
     ∙ ap (λ m. paste xs at (drop from xs) m) n
     ∙ append_assoc (take at xs) (entry c.args.len c.in-Some-2.k xs) (drop (at + c.args.len) xs)
     ∙ ap (λ o. take at xs ++ (entry_or_zeros c.args.len o xs ++ drop (at + c.args.len) xs)) (sym c.in-Some-2.is)

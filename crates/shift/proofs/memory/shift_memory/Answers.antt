@@ -15,12 +15,12 @@ returns c =
     let xs = c.args.nums.now in
     let d = c.args.shift in
     let size = c.args.size in
-    let now = set (set (put_mid header_len (length xs - header_len) xs c.shift-grid.new.cells) 0 c.size-after-after.result.rows) 1 c.size-after-after.result.cols in
+    let now = set (set (put_mid header_len (length xs - header_len) xs c.shift_grid.new.cells) 0 c.size_after-after.result.rows) 1 c.size_after-after.result.cols in
     let s : Shiftable d (size_in xs) = subst (Shiftable d) c.requires.size c.requires.shiftable in
     let is : now ≡ shifted_memory d xs =
-    counts_set xs c.shift-grid.new.cells c.size-after-after.result.rows c.size-after-after.result.cols (omega (arith, c.requires.room))
-    ∙ ap (λ (z : Size). z.rows ∷ z.cols ∷ c.shift-grid.new.cells) c.size-after-after.ensures
-    ∙ ap (λ ys. (size_after d size).rows ∷ (size_after d size).cols ∷ ys) (c.shift-grid.ensures ∙ ap (cells_after d size) (take_rest xs header_len))
+    counts_set xs c.shift_grid.new.cells c.size_after-after.result.rows c.size_after-after.result.cols (omega (arith, c.requires.room))
+    ∙ ap (λ (z : Size). z.rows ∷ z.cols ∷ c.shift_grid.new.cells) c.size_after-after.ensures
+    ∙ ap (λ ys. (size_after d size).rows ∷ (size_after d size).cols ∷ ys) (c.shift_grid.ensures ∙ ap (cells_after d size) (take_rest xs header_len))
     ∙ ap (λ z. (size_after d z).rows ∷ (size_after d z).cols ∷ cells_after d z (drop header_len xs)) c.requires.size in
     let room = subst (λ z. sheet_len (max (cells_of z) (cells_of (size_after d z))) ≤ length xs) c.requires.size c.requires.room in
     record {

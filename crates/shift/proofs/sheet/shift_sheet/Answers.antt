@@ -5,11 +5,11 @@ use Rattle.shift.specs.Entries.{size_after, cells_of, Shiftable}
 use Rattle.shift.proofs.Allowed.{ready, fits_after, room_left}
 use Rattle.shift.proofs.sheet.shift_sheet.Goals as goal
 
-pub shift-memory-requires : goal.shift-memory-requires
-shift-memory-requires c =
+pub shift_memory-requires : goal.shift_memory-requires
+shift_memory-requires c =
     let xs = c.args.nums.now in
     let d = c.args.shift in
-    let r = ready d c.args.most c.in-ok-size.size xs (sym c.check-shift.ensures ∙ c.in-ok-size.was) in
+    let r = ready d c.args.most c.in_ok-size.size xs (sym c.check_shift.ensures ∙ c.in_ok-size.was) in
     record {
       size = r.is;
       shiftable = subst (Shiftable d) (sym r.is) r.leaves.shiftable;
@@ -21,9 +21,9 @@ returns c =
     let xs = c.args.nums.now in
     let d = c.args.shift in
     let most = c.args.most in
-    let size = c.in-ok-size.size in
-    let r = ready d most size xs (sym c.check-shift.ensures ∙ c.in-ok-size.was) in
-    let done = c.shift-memory.ensures in
+    let size = c.in_ok-size.size in
+    let r = ready d most size xs (sym c.check_shift.ensures ∙ c.in_ok-size.was) in
+    let done = c.shift_memory.ensures in
     let formed = sym (ap checked done.numbers) ∙ done.formed r.ok ∙ ap (λ z. Ok (size_after d z)) r.is in
     record {
       answer = sym (ap answered r.answer);

@@ -3,7 +3,7 @@ use Rattle.recalc.specs.declared.size.Size.{Size}
 use Rattle.recalc.specs.NumberedLemmas.{few_cells}
 use Rattle.show.proofs.answer.see_sheet.Goals as goal
 
-pub add-shown-requires : goal.add-shown-requires
-add-shown-requires c =
+pub add_shown-requires : goal.add_shown-requires
+add_shown-requires c =
     let z : Size = c.in-Ok.size in
-    record { checked = (sym c.check-sheet.ensures.is ∙ c.in-Ok.is, c.in-Ok.ensures.sized); room = omega (arith, few_cells _ z c.in-Ok.ensures.sized) }
+    record { checked = (sym c.check_sheet.ensures.is ∙ c.in-Ok.is, c.in-Ok.ensures.sized); room = omega (arith, few_cells _ z c.in-Ok.ensures.sized) }

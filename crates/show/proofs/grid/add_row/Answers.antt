@@ -6,7 +6,7 @@ use Rattle.show.proofs.grid.add_row.Goals as goal
 
 pub loop-col-preserved : goal.loop-col-preserved
 loop-col-preserved g c =
-    text_added (g.G.Grid.entry c.args.grid.now c.args.row) c.loop-col.col c.args.cols (string_bytes c.loop-col.lines) _ c.loop-col-test.true c.in-ok-add-entry.ensures ∙ c.loop-col.invariant
+    text_added (g.G.Grid.entry c.args.grid.now c.args.row) c.loop-col.col c.args.cols (string_bytes c.loop-col.lines) _ c.loop-col-test.true c.in_ok-add_entry.ensures ∙ c.loop-col.invariant
 
 pub returns : goal.returns
 returns g c =

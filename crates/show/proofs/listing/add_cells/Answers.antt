@@ -9,8 +9,8 @@ loop-index-preserved c =
     let w = c.args.size.cols in
     let k = c.loop-index.index in
     let before = string_bytes c.loop-index.lines in
-    let added = c.in-ok-add-line.ensures ∙ ap (λ x. before ++ line_of (k / w) (k % w) x) c.cell-at.ensures in
-    text_added (cell_line w c.args.nums.now) k (c.args.size.rows * w) before (string_bytes c.add-line.new.lines) c.loop-index-test.true added ∙ c.loop-index.invariant
+    let added = c.in_ok-add_line.ensures ∙ ap (λ x. before ++ line_of (k / w) (k % w) x) c.cell_at.ensures in
+    text_added (cell_line w c.args.nums.now) k (c.args.size.rows * w) before (string_bytes c.add_line.new.lines) c.loop-index-test.true added ∙ c.loop-index.invariant
 
 pub returns : goal.returns
 returns c =

@@ -30,12 +30,12 @@ pub returns-in-Values : goal.returns-in-Values
 returns-in-Values c =
     let xs = c.args.nums.now in
     let z = c.args.size in
-    added c.add-values.result (string_bytes c.args.lines.now) (string_bytes c.add-values.new.lines) (view_text c.args.view xs z) (λ ys. values_text ys z) _ _
-    (part xs c.fill-values.new.values c.args.values.now z c.requires.checked.0 c.fill-values.ensures) (ap (λ v. view_text v xs z) (sym c.in-Values.is)) c.add-values.ensures
+    added c.add_values.result (string_bytes c.args.lines.now) (string_bytes c.add_values.new.lines) (view_text c.args.view xs z) (λ ys. values_text ys z) _ _
+    (part xs c.fill_values.new.values c.args.values.now z c.requires.checked.0 c.fill_values.ensures) (ap (λ v. view_text v xs z) (sym c.in-Values.is)) c.add_values.ensures
 
 pub returns-in-Table : goal.returns-in-Table
 returns-in-Table c =
     let xs = c.args.nums.now in
     let z = c.args.size in
-    added c.add-table.result (string_bytes c.args.lines.now) (string_bytes c.add-table.new.lines) (view_text c.args.view xs z) (λ ys. table_text ys z) _ _
-    (part xs c.fill-values.new.values c.args.values.now z c.requires.checked.0 c.fill-values.ensures) (ap (λ v. view_text v xs z) (sym c.in-Table.is)) c.add-table.ensures
+    added c.add_table.result (string_bytes c.args.lines.now) (string_bytes c.add_table.new.lines) (view_text c.args.view xs z) (λ ys. table_text ys z) _ _
+    (part xs c.fill_values.new.values c.args.values.now z c.requires.checked.0 c.fill_values.ensures) (ap (λ v. view_text v xs z) (sym c.in-Table.is)) c.add_table.ensures

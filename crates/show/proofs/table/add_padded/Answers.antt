@@ -9,6 +9,6 @@ pub returns : goal.returns
 returns c =
     let old = string_bytes c.args.lines.now in
     let text = entry_text c.args.entry in
-    let room : c.saturating-sub.result ≡ c.args.width - length text = omega (arith, c.in-ok-width-of.ensures) in
-    let spaces = c.in-ok-add-spaces.ensures ∙ ap (λ n. old ++ replicate n 32) room in
-    IfOk-weaker c.write.result _ _ (λ x. one_after old (string_bytes c.add-spaces.new.lines) _ (replicate (c.args.width - length text) 32) text spaces) c.write.ensures.bytes
+    let room : c.saturating_sub.result ≡ c.args.width - length text = omega (arith, c.in_ok-width_of.ensures) in
+    let spaces = c.in_ok-add_spaces.ensures ∙ ap (λ n. old ++ replicate n 32) room in
+    IfOk-weaker c.write.result _ _ (λ x. one_after old (string_bytes c.add_spaces.new.lines) _ (replicate (c.args.width - length text) 32) text spaces) c.write.ensures.bytes

@@ -9,6 +9,6 @@ pub returns : goal.returns
 returns c =
     let xs = c.args.values.now in
     let size = c.args.size in
-    let widths = c.in-ok-column-widths.field-0 in
-    let same = widths_alike xs size.cols (λ col. get_or widths col 0) (column_width xs size) (size.rows + 1) (size.cols + 1) (λ col l. c.in-ok-column-widths.ensures col (omega arith)) in
-    IfOk-weaker c.add-grid.result _ _ (λ x e. e ∙ ap (λ t. string_bytes c.args.lines.now ++ t) same) c.add-grid.ensures
+    let widths = c.in_ok-column_widths.field-0 in
+    let same = widths_alike xs size.cols (λ col. get_or widths col 0) (column_width xs size) (size.rows + 1) (size.cols + 1) (λ col l. c.in_ok-column_widths.ensures col (omega arith)) in
+    IfOk-weaker c.add_grid.result _ _ (λ x e. e ∙ ap (λ t. string_bytes c.args.lines.now ++ t) same) c.add_grid.ensures

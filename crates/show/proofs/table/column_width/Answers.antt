@@ -11,8 +11,8 @@ loop-line-init c = largest_none (width_at c.args.values.now c.args.size.cols c.a
 pub loop-line-preserved : goal.loop-line-preserved
 loop-line-preserved c =
     let f = width_at c.args.values.now c.args.size.cols c.args.col in
-    let here = c.in-ok-width-of.ensures ∙ ap (λ e. length (entry_text e)) c.table-entry-entry.ensures in
-    c.max-width.ensures ∙ ap (λ w. max w c.in-ok-width-of.field-0) c.loop-line.invariant ∙ ap (max (largest f c.loop-line.line)) here ∙ sym (largest_more f c.loop-line.line)
+    let here = c.in_ok-width_of.ensures ∙ ap (λ e. length (entry_text e)) c.table_entry-entry.ensures in
+    c.max-width.ensures ∙ ap (λ w. max w c.in_ok-width_of.field-0) c.loop-line.invariant ∙ ap (max (largest f c.loop-line.line)) here ∙ sym (largest_more f c.loop-line.line)
 
 pub returns : goal.returns
 returns c =

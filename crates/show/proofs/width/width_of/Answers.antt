@@ -7,8 +7,8 @@ use Rattle.show.proofs.width.width_of.Goals as goal
 
 pub returns : goal.returns
 returns c =
-    let put = c.in-ok-write.ensures.writes c.new-f.ensures.plain refl in
+    let put = c.in_ok-write.ensures.writes c.new-f.ensures.plain refl in
     let all = counts _ (entry_text c.args.entry) _ put.wrote in
     let start = ap (λ (w : Counter). w.count) c.new-f.ensures.writer in
-    let end = ap (λ (w : Counter). w.count) c.into-inner.ensures in
+    let end = ap (λ (w : Counter). w.count) c.into_inner.ensures in
     omega arith

@@ -6,7 +6,7 @@ use Rattle.recalc.proofs.lent.LentFormulas.attempt.Goals as goal
 
 pub returns : goal.returns
 returns c =
-    let z : Size = record { rows = c.number-at.result; cols = c.number-at-2.result } in
-    let same : z ≡ size_in c.args.nums.now = λ i. record { rows = c.number-at.ensures i; cols = c.number-at-2.ensures i } in
-    let h = lent_answers c.args.nums.now z c.args.table.now c.args.k c.attempt-cell.result c.requires.within same c.attempt-cell.ensures in
+    let z : Size = record { rows = c.number_at.result; cols = c.number_at-2.result } in
+    let same : z ≡ size_in c.args.nums.now = λ i. record { rows = c.number_at.ensures i; cols = c.number_at-2.ensures i } in
+    let h = lent_answers c.args.nums.now z c.args.table.now c.args.k c.attempt_cell.result c.requires.within same c.attempt_cell.ensures in
     record { within = h.0; answers = h.1 }

@@ -7,14 +7,14 @@ pub overflow-mul-result : goal.overflow-mul-result
 overflow-mul-result c =
     omega (
       arith,
-      before_number c.args.self c.args.size c.args.k c.size-after-cols.result.cols c.in-ok-from.from c.requires.0 c.requires.1
-          (ap (λ (z : Size). z.cols) c.size-after-cols.ensures) (sym c.in-ok-from.was ∙ c.place-before.ensures),
+      before_number c.args.self c.args.size c.args.k c.size_after-cols.result.cols c.in_ok-from.from c.requires.0 c.requires.1
+          (ap (λ (z : Size). z.cols) c.size_after-cols.ensures) (sym c.in_ok-from.was ∙ c.place_before.ensures),
     )
 
 pub overflow-add-result : goal.overflow-add-result
 overflow-add-result c =
     omega (
       arith,
-      before_number c.args.self c.args.size c.args.k c.size-after-cols.result.cols c.in-ok-from.from c.requires.0 c.requires.1
-          (ap (λ (z : Size). z.cols) c.size-after-cols.ensures) (sym c.in-ok-from.was ∙ c.place-before.ensures),
+      before_number c.args.self c.args.size c.args.k c.size_after-cols.result.cols c.in_ok-from.from c.requires.0 c.requires.1
+          (ap (λ (z : Size). z.cols) c.size_after-cols.ensures) (sym c.in_ok-from.was ∙ c.place_before.ensures),
     )

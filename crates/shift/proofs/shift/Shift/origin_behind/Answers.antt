@@ -8,11 +8,11 @@ overflow-sub-result c =
     let d = c.args.self in
     let size = c.args.size in
     let first = first_entry d size in
-    let is : first ≤ c.in-ok-from.from =
-    let e : origin d size (first + c.args.i) ≡ Some c.in-ok-from.from =
-    ap (λ k. origin d size (k + c.args.i)) (sym c.first-entry-first.ensures) ∙ sym c.origin.ensures ∙ c.in-ok-from.was in
+    let is : first ≤ c.in_ok-from.from =
+    let e : origin d size (first + c.args.i) ≡ Some c.in_ok-from.from =
+    ap (λ k. origin d size (k + c.args.i)) (sym c.first_entry-first.ensures) ∙ sym c.origin.ensures ∙ c.in_ok-from.was in
     elim (origins d size (first + c.args.i) c.requires.0 (omega (arith, c.requires.1))) [
-      | inl (j, o) ↦ (let h = o.is in let b = o.behind (omega arith) in let z : j ≡ c.in-ok-from.from = cc in omega arith)
+      | inl (j, o) ↦ (let h = o.is in let b = o.behind (omega arith) in let z : j ≡ c.in_ok-from.from = cc in omega arith)
       | inr (h, i) ↦ absurd (let z : ◌≡◌ {A = ℕ} 0 1 = cc in omega arith)
     ] in
-    omega (arith, c.first-entry-first.ensures, is)
+    omega (arith, c.first_entry-first.ensures, is)

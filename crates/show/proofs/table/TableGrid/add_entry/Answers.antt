@@ -14,6 +14,6 @@ returns c =
     let mid = string_bytes c.write.new.self in
     let width = get_or t.widths c.args.col 0 in
     let text = entry_text (table_entry t.values.now t.cols c.args.row c.args.col) in
-    let before = c.in-ok-write.ensures.bytes ∙ ap (λ x. old ++ x) c.gap-before.ensures in
-    let same = ap (λ w. mid ++ padded w (entry_text c.table-entry-entry.result)) c.width-at-width.ensures ∙ ap (λ e. mid ++ padded width (entry_text e)) c.table-entry-entry.ensures in
-    IfOk-weaker c.add-padded.result _ _ (λ x e. one_after old mid _ (gap (codes "  ") c.args.col) (padded width text) before (e ∙ same)) c.add-padded.ensures
+    let before = c.in_ok-write.ensures.bytes ∙ ap (λ x. old ++ x) c.gap-before.ensures in
+    let same = ap (λ w. mid ++ padded w (entry_text c.table_entry-entry.result)) c.width_at-width.ensures ∙ ap (λ e. mid ++ padded width (entry_text e)) c.table_entry-entry.ensures in
+    IfOk-weaker c.add_padded.result _ _ (λ x e. one_after old mid _ (gap (codes "  ") c.args.col) (padded width text) before (e ∙ same)) c.add_padded.ensures
