@@ -7,7 +7,7 @@ use Rattle.evaluate.specs.declared.value.Value.{Value}
 use Rattle.evaluate.specs.declared.value.Value.TheVariants.{Empty, Number, Error}
 use Rattle.evaluate.specs.declared.stop.Stop.{Stop}
 use Rattle.evaluate.specs.declared.stop.Stop.TheVariants as stop
-use Rattle.evaluate.specs.Traces.{Trace, ends, seen, look, bind, looks_on, then}
+use Rattle.evaluate.specs.Traces.{Trace, seen, look, bind, looks_on, then}
 use Rattle.evaluate.specs.Evaluation.{attempt, known, looked_at}
 use Rattle.evaluate.specs.Knowledge.{hidden, first_in, ends_at, Within, Stays, Wanting}
 use Rattle.evaluate.proofs.Related.{Plain, related}

@@ -8,7 +8,7 @@ use Rattle.evaluate.specs.declared.value.Value.{Value}
 use Rattle.evaluate.specs.declared.value.Value.TheVariants.{Empty, Number, Error}
 use Rattle.evaluate.specs.declared.stop.Stop.{Stop}
 use Rattle.evaluate.specs.declared.stop.Stop.TheVariants as stop
-use Rattle.evaluate.specs.Traces.{Trace, ends, seen, look, bind, looks_on, then}
+use Rattle.evaluate.specs.Traces.{Trace, seen, look, bind, looks_on, then}
 use Rattle.evaluate.specs.Evaluation.{trace, attempt, known, looked_at, value_of, evaluated}
 use Rattle.evaluate.specs.Knowledge.{In, here, there, Wanting}
 use Rattle.evaluate.proofs.Places.{in_first, in_none, in_left, in_right, in_either}

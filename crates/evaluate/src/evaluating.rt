@@ -15,7 +15,7 @@ use std::mem::replace;
 
 // What a formula comes to from what the cells show; None where the row is no formula.
 pub fn evaluate<C: Cells>(tokens: &[u64], cells: &C) -> Option<Result<u64, Stop>>
-    ensures { result ≡ option_map (attempt (shown cells.now)) (spelled tokens.now) }
+    ensures { result ≡ option_map (attempt (C.shown cells.now)) (spelled tokens.now) }
 {
     if !is_formula(tokens) {
         return None;
@@ -29,13 +29,13 @@ pub fn looks<C: Cells>(
     cells: &C,
     places: &mut Vec<CellRef>,
 ) -> Result<Result<u64, Stop>, Unlisted>
-    ensures { Lists (shown cells.now) (height cells.now) (width cells.now) (spelled tokens.now) (vec_capacity places.old) result places.old.items places.new.items }
+    ensures { Lists (C.shown cells.now) (C.height cells.now) (C.width cells.now) (spelled tokens.now) (vec_capacity places.old) result places.old.items places.new.items }
 {
     if !is_formula(tokens) {
         return Err(Unlisted::Malformed);
     }
     let before = places.len();
-    let empty = Vec::new(places.allocator());
+    let empty = Vec::new(*places.allocator());
     let mut trail = Listed {
         places: replace(places, empty),
         full: false,

@@ -41,8 +41,8 @@ fn take_row<C: Cells, T: Trail>(
     trail: &mut T,
 ) -> Result<Tally, Stop>
     requires room { (Bounded tally) × (tally.count + max_columns ≤ max_cells) }
-    requires within { (row < height cells.now) × ((to ≤ width cells.now) × (width cells.now ≤ max_columns)) }
-    ensures follows { Follows (height cells.now) (width cells.now) (gathered_row (shown cells.now) from (to - from) row tally) result (log trail.old) (log trail.new) }
+    requires within { (row < C.height cells.now) × ((to ≤ C.width cells.now) × (C.width cells.now ≤ max_columns)) }
+    ensures follows { Follows (C.height cells.now) (C.width cells.now) (gathered_row (C.shown cells.now) from (to - from) row tally) result (T.log trail.old) (T.log trail.new) }
     ensures bounded { IfOk result (λ t. Bounded t × (t.count ≤ tally.count + max_columns)) }
 {
     let mut sum = tally;
@@ -63,7 +63,7 @@ fn clip(first: u64, count: u64, lines: u64) -> u64
 
 // Only the cells within the sheet are looked at, however large the range.
 fn gather<C: Cells, T: Trail>(cells: &C, range: Range, trail: &mut T) -> Result<Tally, Stop>
-    ensures { Follows (height cells.now) (width cells.now) (gathered (shown cells.now) range) result (log trail.old) (log trail.new) }
+    ensures { Follows (C.height cells.now) (C.width cells.now) (gathered (C.shown cells.now) range) result (T.log trail.old) (T.log trail.new) }
 {
     let bottom = clip(range.row, range.rows, cells.rows());
     let right = clip(range.col, range.cols, cells.cols());
@@ -97,7 +97,7 @@ pub fn fold<C: Cells, T: Trail>(
     cells: &C,
     trail: &mut T,
 ) -> Result<u64, Stop>
-    ensures { Follows (height cells.now) (width cells.now) (trace (shown cells.now) (formula.fold aggregate range)) result (log trail.old) (log trail.new) }
+    ensures { Follows (C.height cells.now) (C.width cells.now) (trace (C.shown cells.now) (formula.fold aggregate range)) result (T.log trail.old) (T.log trail.new) }
 {
     let Some(range) = range else {
         return Err(Stop::Error(CellError::Lost));

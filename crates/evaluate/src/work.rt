@@ -36,7 +36,7 @@ fn apply(operator: Operator, a: u64, b: u64) -> Result<u64, Stop>
 
 // Places outside the sheet are on no trail.
 fn note_inside<C: Cells, T: Trail>(place: CellRef, cells: &C, trail: &mut T)
-    ensures { Kept (log trail.old) (inside (height cells.now) (width cells.now) (place ∷ [])) (log trail.new) }
+    ensures { Kept (T.log trail.old) (inside (C.height cells.now) (C.width cells.now) (place ∷ [])) (T.log trail.new) }
 {
     if place.row < cells.rows() && place.col < cells.cols() {
         trail.note(place);
@@ -56,7 +56,7 @@ fn number_in(place: CellRef, value: Option<Value>) -> Result<u64, Stop>
 }
 
 fn look<C: Cells, T: Trail>(place: Option<CellRef>, cells: &C, trail: &mut T) -> Result<u64, Stop>
-    ensures { Follows (height cells.now) (width cells.now) (trace (shown cells.now) (formula.cell place)) result (log trail.old) (log trail.new) }
+    ensures { Follows (C.height cells.now) (C.width cells.now) (trace (C.shown cells.now) (formula.cell place)) result (T.log trail.old) (T.log trail.new) }
 {
     let Some(place) = place else {
         return Err(Stop::Error(CellError::Lost));
@@ -80,7 +80,7 @@ pub fn work<C: Cells, T: Trail>(
     trail: &mut T,
 ) -> Result<u64, Stop>
     requires { is_some (formula_at nth (reads tokens.now)) ≡ true }
-    ensures { (x : formula.Formula) → formula_at nth (reads tokens.now) ≡ Some x → Follows (height cells.now) (width cells.now) (trace (shown cells.now) x) result (log trail.old) (log trail.new) }
+    ensures { (x : formula.Formula) → formula_at nth (reads tokens.now) ≡ Some x → Follows (C.height cells.now) (C.width cells.now) (trace (C.shown cells.now) x) result (T.log trail.old) (T.log trail.new) }
 {
     let Some((token, rest)) = read_operand(tokens, nth) else {
         unreachable()

@@ -3,7 +3,7 @@ use Rattle.std.specs.Prelude.{ℕ, zero, suc, ◌-◌, ◌*◌, cond, List, [], 
 use Rattle.formula.specs.declared.cell.Cell.{Cell}
 use Rattle.formula.specs.declared.cell.Cell.TheVariants.{Blank, Formula, Malformed}
 use Rattle.formula.specs.declared.cell.NotWritten.{NotWritten}
-use Rattle.formula.specs.declared.cell.NotWritten.TheVariants as not
+use Rattle.formula.specs.declared.cell.NotWritten.TheVariants as why
 use Rattle.formula.specs.Layout.{token_len, max_tokens, formula_len, cell_len}
 use Rattle.formula.specs.Formula as formula
 use Rattle.formula.specs.Reading.{spelled}
@@ -36,12 +36,12 @@ abbrev pub stored : formula.Formula → List ℕ
 stored f = token_count f ∷ (writes f [] ++ replicate (formula_len - token_len * token_count f) 0)
 
 abbrev stored_or : List ℕ → Option formula.Formula → Result (List ℕ) NotWritten
-stored_or xs None = Err not.Malformed
+stored_or xs None = Err why.Malformed
 stored_or xs (Some f) = Ok (stored f ++ drop cell_len xs)
 
 -- a row that begins with a cell, with the formula that the tokens spell written into it
 abbrev pub written : List ℕ → List ℕ → Result (List ℕ) NotWritten
-written xs ts = cond (nat_lt (length xs) cell_len) (Err not.Short) (stored_or xs (spelled ts))
+written xs ts = cond (nat_lt (length xs) cell_len) (Err why.Short) (stored_or xs (spelled ts))
 
 -- what is answered, and what the row then holds: a refusal leaves it as it was
 abbrev pub answered : Result (List ℕ) NotWritten → Result (Unit {0}) NotWritten
