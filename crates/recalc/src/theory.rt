@@ -6,11 +6,11 @@ use crate::formulas::Formulas;
 
 // What is shown agrees with itself, is the only answer but for cycles, does not change deeper down, and has cycles exactly where a way leads back.
 pub fn every_language_is_settled<F: Formulas>(f: &F, nums: &[u64]) -> u8
-    ensures settles { Settles (language f.now nums.now) }
-    ensures deeper { Deeper (language f.now nums.now) }
-    ensures only { OnlyAnswer (language f.now nums.now) }
-    ensures cycles { CycleExactly (language f.now nums.now) }
-    ensures stays { UnchangedStays (language f.now nums.now) }
+    ensures settles { Settles (F.language f.now nums.now) }
+    ensures deeper { Deeper (F.language f.now nums.now) }
+    ensures only { OnlyAnswer (F.language f.now nums.now) }
+    ensures cycles { CycleExactly (F.language f.now nums.now) }
+    ensures stays { UnchangedStays (F.language f.now nums.now) }
 {
     0
 }

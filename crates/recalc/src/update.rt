@@ -31,12 +31,12 @@ fn attempt<F: Formulas>(
     kept: &[Progress],
     dirty: bool,
 ) -> Attempt
-    requires within { k < (language f.now nums.now).count }
-    requires table { length table.now ≡ (language f.now nums.now).count }
-    requires kept { length kept.now ≡ (language f.now nums.now).count }
-    ensures within { NeedsWithin (language f.now nums.now).count result }
-    ensures all { dirty ≡ true → (s : ℕ → Value) → Right s table.now → Answers ((language f.now nums.now).work s k) ((language f.now nums.now).looks s k) table.now result }
-    ensures same { dirty ≡ false → (s : ℕ → Value) → Right s kept.now → Answers ((language f.now nums.now).work s k) ((language f.now nums.now).looks s k) kept.now result }
+    requires within { k < (F.language f.now nums.now).count }
+    requires table { length table.now ≡ (F.language f.now nums.now).count }
+    requires kept { length kept.now ≡ (F.language f.now nums.now).count }
+    ensures within { NeedsWithin (F.language f.now nums.now).count result }
+    ensures all { dirty ≡ true → (s : ℕ → Value) → Right s table.now → Answers ((F.language f.now nums.now).work s k) ((F.language f.now nums.now).looks s k) table.now result }
+    ensures same { dirty ≡ false → (s : ℕ → Value) → Right s kept.now → Answers ((F.language f.now nums.now).work s k) ((F.language f.now nums.now).looks s k) kept.now result }
 {
     if dirty {
         f.attempt(nums, k, table)
@@ -57,10 +57,10 @@ fn step<F: Formulas>(
     stack: &mut [usize],
     depth: usize,
 ) -> usize
-    requires before { length before.now ≡ (language f.now nums.now).count }
-    requires going { Going (change (language f.now nums.now) before.now written.now) table.old kept.old dirty.old stack.old depth }
+    requires before { length before.now ≡ (F.language f.now nums.now).count }
+    requires going { Going (change (F.language f.now nums.now) before.now written.now) table.old kept.old dirty.old stack.old depth }
     requires some { 0 < depth }
-    ensures { Moved (change (language f.now nums.now) before.now written.now) table.old dirty.old depth table.new kept.new dirty.new stack.new result }
+    ensures { Moved (change (F.language f.now nums.now) before.now written.now) table.old dirty.old depth table.new kept.new dirty.new stack.new result }
 {
     let k = stack[depth - 1];
     match attempt(f, nums, k, table, kept, dirty[k]) {
@@ -97,9 +97,9 @@ fn settle<F: Formulas>(
     dirty: &mut [bool],
     stack: &mut [usize],
 )
-    requires before { length before.now ≡ (language f.now nums.now).count }
-    requires going { Going (change (language f.now nums.now) before.now written.now) table.old kept.old dirty.old stack.old 1 }
-    ensures going { Going (change (language f.now nums.now) before.now written.now) table.new kept.new dirty.new stack.new 0 }
+    requires before { length before.now ≡ (F.language f.now nums.now).count }
+    requires going { Going (change (F.language f.now nums.now) before.now written.now) table.old kept.old dirty.old stack.old 1 }
+    ensures going { Going (change (F.language f.now nums.now) before.now written.now) table.new kept.new dirty.new stack.new 0 }
     ensures later { Later table.old table.new }
 {
     let mut depth = 1;
@@ -120,10 +120,10 @@ fn visit<F: Formulas>(
     stack: &mut [usize],
     k: usize,
 )
-    requires before { length before.now ≡ (language f.now nums.now).count }
-    requires going { Going (change (language f.now nums.now) before.now written.now) table.old kept.old dirty.old stack.old 0 }
+    requires before { length before.now ≡ (F.language f.now nums.now).count }
+    requires going { Going (change (F.language f.now nums.now) before.now written.now) table.old kept.old dirty.old stack.old 0 }
     requires within { k < length table.old }
-    ensures going { Going (change (language f.now nums.now) before.now written.now) table.new kept.new dirty.new stack.new 0 }
+    ensures going { Going (change (F.language f.now nums.now) before.now written.now) table.new kept.new dirty.new stack.new 0 }
     ensures later { Later table.old table.new }
     ensures here { at table.new k ≢ Waiting }
 {
@@ -159,13 +159,13 @@ pub fn update<F: Formulas>(
     dirty: &mut [bool],
     stack: &mut [usize],
 )
-    requires before { length before.now ≡ (language f.now nums.now).count }
-    requires written { length written.now ≡ (language f.now nums.now).count }
-    requires table { length table.old ≡ (language f.now nums.now).count }
-    requires kept { length kept.old ≡ (language f.now nums.now).count }
-    requires dirty { length dirty.old ≡ (language f.now nums.now).count }
-    requires stack { (language f.now nums.now).count ≤ length stack.old }
-    ensures { Updated (change (language f.now nums.now) before.now written.now) table.new dirty.new }
+    requires before { length before.now ≡ (F.language f.now nums.now).count }
+    requires written { length written.now ≡ (F.language f.now nums.now).count }
+    requires table { length table.old ≡ (F.language f.now nums.now).count }
+    requires kept { length kept.old ≡ (F.language f.now nums.now).count }
+    requires dirty { length dirty.old ≡ (F.language f.now nums.now).count }
+    requires stack { (F.language f.now nums.now).count ≤ length stack.old }
+    ensures { Updated (change (F.language f.now nums.now) before.now written.now) table.new dirty.new }
 {
     clear(table);
     clear(kept);

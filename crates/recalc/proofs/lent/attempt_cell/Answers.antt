@@ -6,11 +6,11 @@ use Rattle.recalc.specs.Numbered.{as_attempt}
 use Rattle.recalc.specs.NumberedLemmas.{wanted_small}
 use Rattle.recalc.proofs.lent.attempt_cell.Goals as goal
 
-pub overflow-mul-result : goal.overflow-mul-result
-overflow-mul-result c = omega (arith, wanted_small c.args.nums.now c.args.size c.args.table.now c.args.k c.in-Err.place c.requires.size.0 c.requires.size.1 (sym c.in-Err.ensures))
+pub overflow_mul-result : goal.overflow_mul-result
+overflow_mul-result c = omega (arith, wanted_small c.args.nums.now c.args.size c.args.table.now c.args.k c.in-Err.place c.requires.size.0 c.requires.size.1 (sym c.in-Err.ensures))
 
-pub overflow-add-result : goal.overflow-add-result
-overflow-add-result c = omega (arith, wanted_small c.args.nums.now c.args.size c.args.table.now c.args.k c.in-Err.place c.requires.size.0 c.requires.size.1 (sym c.in-Err.ensures))
+pub overflow_add-result : goal.overflow_add-result
+overflow_add-result c = omega (arith, wanted_small c.args.nums.now c.args.size c.args.table.now c.args.k c.in-Err.place c.requires.size.0 c.requires.size.1 (sym c.in-Err.ensures))
 
 pub returns-in-Err : goal.returns-in-Err
 returns-in-Err c =
