@@ -7,7 +7,7 @@ use Rattle.recalc.specs.declared.formulas.Progress.TheVariants.{Waiting, Open, K
 use Rattle.recalc.specs.Table.{at, Top, waiting}
 use Rattle.recalc.proofs.Table.{waiting_less, waiting_same}
 use Rattle.recalc.proofs.Table.{waiting_all, waiting_known, popped, open_not, known_not}
-use Rattle.recalc.specs.Change.{flag, Change, Dirty, Decided, Going, Moved, Kept}
+use Rattle.recalc.specs.Change.{flag, Change, Dirty, Decided, Going, Moved, Note}
 use Rattle.recalc.proofs.Moves.{top_within}
 use Rattle.recalc.proofs.Turns.{done, entered, found_cycle, marks}
 use Rattle.recalc.proofs.Starts.{start, opens}
@@ -43,7 +43,7 @@ module _ {x : Change} {t v : List Progress} {w : List Bool} {s : List ℕ} {d : 
   top_inside l = top_within g.good (get_or s (d - 1) 0) (top l)
 
   -- the cell on top is done with
-  pub drops : (k : ℕ) (c : Value) (t₁ v₁ : List Progress) → 0 < d → k ≡ get_or s (d - 1) 0 → c ≡ x.after k → t₁ ≡ set t k (Known c) → Kept (x.before k) k c v v₁ → Decided x w k → Moved x t w d t₁ v₁ w s (d - 1)
+  pub drops : (k : ℕ) (c : Value) (t₁ v₁ : List Progress) → 0 < d → k ≡ get_or s (d - 1) 0 → c ≡ x.after k → t₁ ≡ set t k (Known c) → Note x k c v v₁ → Decided x w k → Moved x t w d t₁ v₁ w s (d - 1)
   drops k c t₁ v₁ l e r p kept dirty =
       let tp : Top (take d s) k = subst (Top (take d s)) (sym e) (top l) in
       let st = done g.good k c t₁ v₁ (take (d - 1) s) tp r p kept (popped s d deep) dirty in
@@ -75,7 +75,7 @@ module _ {x : Change} {t v : List Progress} {w : List Bool} {s : List ℕ} {d : 
       }
 
   -- an open cell is found to stand in a cycle
-  pub cycles : (j i : ℕ) (c : Value) (t₁ v₁ : List Progress) → j < x.n → at t j ≡ Open i → c ≡ x.after j → t₁ ≡ set t j (Known c) → Kept (x.before j) j c v v₁ → Moved x t w d t₁ v₁ w s d
+  pub cycles : (j i : ℕ) (c : Value) (t₁ v₁ : List Progress) → j < x.n → at t j ≡ Open i → c ≡ x.after j → t₁ ≡ set t j (Known c) → Note x j c v v₁ → Moved x t w d t₁ v₁ w s d
   cycles j i c t₁ v₁ jn o r p kept =
       let st = found_cycle g.good j i c t₁ v₁ jn o r p kept in
       let same = waiting_same t j (Known c) (λ z. open_not i (sym o ∙ z)) (known_not c) in

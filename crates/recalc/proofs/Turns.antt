@@ -6,7 +6,7 @@ use Rattle.recalc.specs.declared.formulas.Progress.{Progress}
 use Rattle.recalc.specs.declared.formulas.Progress.TheVariants.{Waiting, Open, Known}
 use Rattle.recalc.specs.Table.{at, Top}
 use Rattle.recalc.proofs.Table.{later_set}
-use Rattle.recalc.specs.Change.{flag, Change, Dirty, Decided, Good, weight, unmarked_one, Kept, Stepped}
+use Rattle.recalc.specs.Change.{flag, Change, Dirty, Decided, Good, weight, unmarked_one, Note, Stepped}
 use Rattle.recalc.proofs.Moves.{On, load_set, unmarked_set, top_within, noted, popped, pushed, marked}
 
 known_not : (c : Value) → Known c ≡ Waiting → ⊥
@@ -17,7 +17,7 @@ open_not i e = let z : ◌≡◌ {A = ℕ} 0 1 = cc in omega arith
 
 module _ {x : Change} {t v : List Progress} {w : List Bool} {s : List ℕ} (g : Good x t v w s) where
   -- the cell on top is done with
-  pub done : (k : ℕ) (c : Value) (t₁ v₁ : List Progress) (s₁ : List ℕ) → Top s k → c ≡ x.after k → t₁ ≡ set t k (Known c) → Kept (x.before k) k c v v₁ → s₁ ≡ take (length s - 1) s → Decided x w k → Stepped x t w s t₁ v₁ w s₁
+  pub done : (k : ℕ) (c : Value) (t₁ v₁ : List Progress) (s₁ : List ℕ) → Top s k → c ≡ x.after k → t₁ ≡ set t k (Known c) → Note x k c v v₁ → s₁ ≡ take (length s - 1) s → Decided x w k → Stepped x t w s t₁ v₁ w s₁
   done k c t₁ v₁ s₁ top r p kept q dirty =
       let kn = top_within g k top in
       let kt : k < length t = omega (arith, g.t_size) in
@@ -44,7 +44,7 @@ module _ {x : Change} {t v : List Progress} {w : List Bool} {s : List ℕ} (g : 
       }
 
   -- an open cell is found to stand in a cycle
-  pub found_cycle : (j i : ℕ) (c : Value) (t₁ v₁ : List Progress) → j < x.n → at t j ≡ Open i → c ≡ x.after j → t₁ ≡ set t j (Known c) → Kept (x.before j) j c v v₁ → Stepped x t w s t₁ v₁ w s
+  pub found_cycle : (j i : ℕ) (c : Value) (t₁ v₁ : List Progress) → j < x.n → at t j ≡ Open i → c ≡ x.after j → t₁ ≡ set t j (Known c) → Note x j c v v₁ → Stepped x t w s t₁ v₁ w s
   found_cycle j i c t₁ v₁ jn o r p kept =
       let jt : j < length t = omega (arith, g.t_size) in
       let on = g.opened j i o in

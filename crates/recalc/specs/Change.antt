@@ -51,9 +51,12 @@ pub record Good (x : Change) (t v : List Progress) (w : List Bool) (s : List ℕ
   pub sound : (k : ℕ) → flag w k ≡ true → Dirty x k
   pub decided : (k : ℕ) → (at t k ≢ Waiting) → ((i : ℕ) → i < length s → slice_index s i ≢ k) → Decided x w k
 
--- c noted as what cell k shows, where it showed b: it is kept if it is the same
-abbrev pub Kept : Value → ℕ → Value → List Progress → List Progress → Type 0
-Kept b k c v v₁ = ((c ≡ b) × (v₁ ≡ slice_set v k (Known c))) ⊎ ((c ≢ b) × (v₁ ≡ v))
+-- c noted as what cell k shows
+abbrev pub Note : Change → ℕ → Value → List Progress → List Progress → Type 0
+Note x k c v v₁ = ((c ≡ x.before k) × (v₁ ≡ slice_set v k (Known c))) ⊎ ((c ≢ x.before k) × (v₁ ≡ v))
+
+abbrev pub Kept : List Value → ℕ → Value → List Progress → List Progress → Type 0
+Kept before k c v v₁ = ((c ≡ shows before k) × (v₁ ≡ slice_set v k (Known c))) ⊎ ((c ≢ shows before k) × (v₁ ≡ v))
 
 abbrev pub weight : Progress → ℕ
 weight Waiting = 3

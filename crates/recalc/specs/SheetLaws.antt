@@ -1,5 +1,5 @@
 -- A sheet is a lawful language, and what it shows by numbers is what it shows by places. Assumes nothing.
-use Rattle.std.specs.Prelude.{◌≡◌, ℕ, zero, suc, ◌+◌, ◌*◌, ◌/◌, ◌%◌, ◌<◌, Bool, true, false, cond, List, ◌++◌, length, drop, Some, None, Option}
+use Rattle.std.specs.Prelude.{◌≡◌, ℕ, zero, suc, ◌+◌, ◌*◌, ◌/◌, ◌%◌, ◌<◌, Bool, true, false, cond, Some, None, Option}
 use Rattle.std.proofs.Math.Path.{refl, ap, fun_ext}
 use Rattle.std.proofs.Common.{sym, subst, ◌∙◌, arith}
 use Rattle.std.proofs.lemmas.Bool.{cond-true, lt-ltb}
@@ -9,7 +9,6 @@ use Rattle.formula.specs.Formula.{Formula}
 use Rattle.evaluate.specs.declared.value.CellError.TheVariants.{Cycle}
 use Rattle.evaluate.specs.declared.value.Value.{Value}
 use Rattle.evaluate.specs.declared.value.Value.TheVariants.{Empty, Error}
-use Rattle.evaluate.specs.Values.{value_numbers}
 use Rattle.evaluate.specs.Traces.{Trace}
 use Rattle.evaluate.specs.Evaluation.{value_of}
 use Rattle.evaluate.specs.Knowledge.{In}
@@ -18,12 +17,8 @@ use Rattle.evaluate.proofs.Looked.{same_trace, ends_in_error, cycle_looked_at}
 use Rattle.recalc.specs.Sheets.{Sheet, inside, held, cell_shows, cell_looks}
 use Rattle.recalc.specs.Sheets as sheets
 use Rattle.recalc.specs.Language.{Lawful, deep, shown}
-use Rattle.recalc.specs.declared.formulas.Progress.{Progress}
-use Rattle.recalc.specs.declared.formulas.Progress.TheVariants.{Known}
-use Rattle.recalc.specs.Table.{at}
-use Rattle.recalc.specs.Showing.{nth_shown, table_shows, values_from, sheet_values, value_known}
+use Rattle.recalc.specs.Showing.{nth_shown}
 use Rattle.recalc.specs.Numbered.{count, number_of, nth_cell, laid, worked, LooksAt, sheet_language}
-use Rattle.recalc.specs.EntriesLemmas.{same_entries}
 use Rattle.recalc.specs.NumberedLemmas.{inside_is, number_inside, some_cols}
 
 -- a cell takes what it takes from the places that it looks at
@@ -102,12 +97,3 @@ module _ (s : Sheet) where
       let r = lt-ltb (k / s.cols) s.rows (div_below k s.cols s.rows some l) in
       let c = lt-ltb (k % s.cols) s.cols (mod_below k s.cols some) in
       sym (shown_laid (k / s.cols) (k % s.cols) ∙ rw (r, c, div-add-mod' k s.cols))
-
-  -- the row that is written from a table in which every cell is known as it is shown
-  pub row_shown : (t : List Progress) (out row : List ℕ) → length t ≡ count s → ((k : ℕ) → k < count s → at t k ≡ Known (shown (sheet_language s) k))
-      → row ≡ values_from (table_shows t) 0 (length t) ++ drop (2 * length t) out → row ≡ sheet_values s ++ drop (2 * count s) out
-  row_shown t out row size known e =
-      e
-      ∙ ap (λ n. values_from (table_shows t) 0 n ++ drop (2 * n) out) size
-      ∙ ap (λ ys. ys ++ drop (2 * count s) out) (same_entries (λ k. value_numbers (table_shows t k)) (λ k. value_numbers (nth_shown s k)) 0 (count s)
-      (λ k a b. let l : k < count s = omega arith in ap value_numbers (ap value_known (known k l) ∙ nth_shown_is k l)))

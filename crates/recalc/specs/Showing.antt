@@ -1,5 +1,5 @@
 -- What is shown of a sheet in lent memory, written into a lent row. Assumes nothing: these are definitions.
-use Rattle.std.specs.Prelude.{◌≡◌, ℕ, ◌*◌, cond, List, ◌++◌, length, drop, Ok, Err, Result, nat_le}
+use Rattle.std.specs.Prelude.{◌≡◌, ℕ, zero, suc, ◌*◌, ◌/◌, ◌%◌, cond, List, [], ◌∷◌, ◌++◌, length, drop, Ok, Err, Result, nat_le}
 use Rattle.evaluate.specs.declared.value.Value.{Value}
 use Rattle.evaluate.specs.declared.value.Value.TheVariants.{Empty}
 use Rattle.evaluate.specs.Values.{value_numbers}
@@ -10,16 +10,16 @@ use Rattle.recalc.specs.declared.formulas.Progress.{Progress}
 use Rattle.recalc.specs.declared.formulas.Progress.TheVariants.{Waiting, Open, Known}
 use Rattle.recalc.specs.Layout.{checked}
 use Rattle.recalc.specs.Table.{at}
-use Rattle.recalc.specs.Entries.{entries_from, by_number}
 use Rattle.recalc.specs.Sheets.{Sheet, shown, sheet_in}
 
 -- what cell k shows, in reading order
 abbrev pub nth_shown : Sheet → ℕ → Value
-nth_shown s k = by_number s.cols (shown s) k
+nth_shown s k = shown s (k / s.cols) (k % s.cols)
 
 -- two numbers each for n cells, from cell k on
-abbrev pub values_from : (ℕ → Value) → ℕ → ℕ → List ℕ
-values_from f k n = entries_from (λ i. value_numbers (f i)) k n
+unfoldable pub values_from : (ℕ → Value) → ℕ → ℕ → List ℕ
+values_from f k zero = []
+values_from f k (suc n) = value_numbers (f k) ++ values_from f (suc k) n
 
 -- two numbers a cell, in reading order
 abbrev pub sheet_values : Sheet → List ℕ
@@ -33,7 +33,7 @@ ShownIn s row = row ≡ sheet_values s ++ drop (2 * (s.rows * s.cols)) row
 abbrev pub in_front : List ℕ → ℕ → List ℕ → Result (List ℕ) Refusal
 in_front values n out = cond (nat_le (2 * n) (length out)) (Ok (values ++ drop (2 * n) out)) (Err (NoRoom (length out)))
 
-abbrev pub unless_refused : {A : Type 0} → Result Size Refusal → (Size → Result A Refusal) → Result A Refusal
+abbrev pub unless_refused : Result Size Refusal → (Size → Result (List ℕ) Refusal) → Result (List ℕ) Refusal
 unless_refused (Ok size) go = go size
 unless_refused (Err r) go = Err r
 
@@ -54,6 +54,11 @@ abbrev pub value_known : Progress → Value
 value_known Waiting = Empty
 value_known (Open i) = Empty
 value_known (Known v) = v
+
+-- the numbers of a table in which every cell is known
+abbrev pub table_numbers : List Progress → List ℕ
+table_numbers [] = []
+table_numbers (p ∷ t) = value_numbers (value_known p) ++ table_numbers t
 
 -- what a table says that cell k shows
 abbrev pub table_shows : List Progress → ℕ → Value

@@ -3,7 +3,7 @@ ghost use Rattle.std.specs.Prelude.{◌≡◌, ◌*◌, ◌≤◌, ◌++◌, len
 ghost use Rattle.evaluate.specs.Limits.{max_cells};
 ghost use Rattle.recalc.specs.Layout.{Sized};
 ghost use Rattle.recalc.specs.Numbered.{count, readable};
-ghost use Rattle.recalc.specs.Showing.{value_known, table_shows, values_from, sheet_values, Shows};
+ghost use Rattle.recalc.specs.Showing.{value_known, table_numbers, sheet_values, Shows};
 
 use crate::formulas::Progress;
 use crate::lent::Lent;
@@ -28,7 +28,7 @@ pub fn known_value(progress: Progress) -> Value
 // The two numbers of each value, one cell after the other.
 fn write_values(table: &[Progress], out: &mut [u64])
     requires { 2 * length table.now ≤ length out.old }
-    ensures { out.new ≡ values_from (table_shows table.now) 0 (length table.now) ++ drop (2 * length table.now) out.old }
+    ensures { out.new ≡ table_numbers table.now ++ drop (2 * length table.now) out.old }
 {
     for k in 0..table.len() {
         let numbers = known_value(table[k]).encode();

@@ -3,7 +3,7 @@ ghost use Rattle.std.specs.Prelude.{◌≡◌, ℕ, ◌+◌, ◌-◌, ◌<◌, �
 ghost use Rattle.recalc.specs.declared.formulas.Progress.TheVariants.{Known, Waiting};
 ghost use Rattle.evaluate.specs.declared.value.Value.{Value};
 ghost use Rattle.recalc.specs.Table.{at, Later, Right, Answers, NeedsWithin};
-ghost use Rattle.recalc.specs.Change.{shows, change, Kept, Going, Moved, Updated};
+ghost use Rattle.recalc.specs.Change.{change, Kept, Going, Moved, Updated};
 
 use crate::formulas::{Attempt, Formulas, Progress};
 use evaluate::{CellError, Value};
@@ -14,7 +14,7 @@ fn note(before: &[Value], table: &mut [Progress], kept: &mut [Progress], k: usiz
     requires table { k < length table.old }
     requires kept { k < length kept.old }
     ensures table { table.new ≡ slice_set table.old k (Known v) }
-    ensures kept { Kept (shows before.now k) k v kept.old kept.new }
+    ensures kept { Kept before.now k v kept.old kept.new }
 {
     table[k] = Progress::Known(v);
     if v == before[k] {

@@ -93,7 +93,7 @@ ready d most size xs e = go (fitting most xs) refl e
     allowed z (Ok x) e = (cc, refl)
     allowed z (Err r) e = absurd (let y : ◌≡◌ {A = ℕ} 0 1 = cc in omega arith)
 
-    go : (f : Result Size Refusal) → fitting most xs ≡ f → unless_refused f (λ z. if_allowed (shift_allowed d z most) z) ≡ Ok size → Ready d most size xs
+    go : (f : Result Size Refusal) → fitting most xs ≡ f → if_fitting f (λ z. if_allowed (shift_allowed d z most) z) ≡ Ok size → Ready d most size xs
     go (Err r) h a = absurd (let y : ◌≡◌ {A = ℕ} 0 1 = cc in omega arith)
     go (Ok z) h a =
         let f = fits most z xs h in

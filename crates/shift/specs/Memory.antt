@@ -39,9 +39,13 @@ abbrev pub if_allowed : Result (Unit {0}) Refusal → Size → Result Size Refus
 if_allowed (Ok x) size = Ok size
 if_allowed (Err r) size = Err r
 
+abbrev pub if_fitting : Result Size Refusal → (Size → Result Size Refusal) → Result Size Refusal
+if_fitting (Ok size) go = go size
+if_fitting (Err r) go = Err r
+
 -- the size of a sheet that can be shifted, or the first refusal that applies, where there may be as many rows and columns as `most` says
 abbrev pub shift_checked : Shift → Size → List ℕ → Result Size Refusal
-shift_checked d most xs = unless_refused (fitting most xs) (λ size. if_allowed (shift_allowed d size most) size)
+shift_checked d most xs = if_fitting (fitting most xs) (λ size. if_allowed (shift_allowed d size most) size)
 
 -- the memory after a shift, or the refusal
 abbrev pub shifted_in : Shift → Size → List ℕ → Result (List ℕ) Refusal

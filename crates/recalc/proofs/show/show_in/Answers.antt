@@ -1,5 +1,5 @@
 use Rattle.recalc.specs.Numbered.{readable}
-use Rattle.recalc.specs.SheetLaws.{row_shown}
+use Rattle.recalc.proofs.Rows.{row_shown}
 use Rattle.recalc.proofs.show.show_in.Goals as goal
 
 pub returns : goal.returns

@@ -1,10 +1,10 @@
-use Rattle.std.proofs.Common.{◌≡◌, ℕ, suc, ◌+◌, ◌-◌, ◌*◌, List, ◌++◌, length, take, ap, ◌∙◌, subst, arith}
+use Rattle.std.proofs.Common.{◌≡◌, ℕ, suc, ◌+◌, ◌-◌, ◌*◌, List, ◌++◌, length, take, drop, sym, ap, ◌∙◌, subst, arith}
 use borrow.Rule.Slice.PartMut.{put_mid}
 use Rattle.std.proofs.lemmas.List.{drop-drop}
 use Rattle.evaluate.specs.Values.{value_numbers}
 use Rattle.recalc.specs.Showing.{table_shows}
 use Rattle.recalc.specs.EntriesLemmas.{FilledTo, filled_none, filled_more}
-use Rattle.recalc.proofs.Rows.{two_numbers}
+use Rattle.recalc.proofs.Rows.{two_numbers, values_entries, table_values}
 use Rattle.recalc.proofs.show.write_values.Goals as goal
 
 pub loop-k-init : goal.loop-k-init
@@ -27,4 +27,7 @@ loop-k-preserved c =
 pub returns : goal.returns
 returns c =
     let e : c.loop-k.k ≡ length c.args.table.now = omega arith in
-    subst (λ i. FilledTo (λ k. value_numbers (table_shows c.args.table.now k)) 2 c.args.out.now i c.loop-k.out) e c.loop-k.invariant
+    let t = c.args.table.now in
+    let f : ℕ → List ℕ = λ i. value_numbers (table_shows t i) in
+    let filled : FilledTo f 2 c.args.out.now (length t) c.loop-k.out = subst (λ i. FilledTo f 2 c.args.out.now i c.loop-k.out) e c.loop-k.invariant in
+    filled ∙ ap (λ ys. ys ++ drop (2 * length t) c.args.out.now) (sym (table_values t ∙ values_entries (table_shows t) 0 (length t)))
