@@ -18,7 +18,7 @@ use Rattle.shift.specs.Lines.{count_to}
 use Rattle.shift.specs.Shifts.{the_shift, rows_after, cols_after}
 use Rattle.shift.specs.Sheets.{line_allowed, shift_allowed}
 use Rattle.shift.specs.Entries.{size_after, cells_of, LineThere, Shiftable}
-use Rattle.shift.specs.Memory.{shifted_memory, if_allowed, shift_checked, shifted_in}
+use Rattle.shift.specs.Memory.{shifted_memory, if_allowed, if_fitting, shift_checked, shifted_in}
 use Rattle.shift.proofs.Memories.{some_left, memory_length}
 
 -- the line is there, and there are no more than may be

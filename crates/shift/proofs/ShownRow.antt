@@ -9,8 +9,8 @@ use Rattle.recalc.specs.declared.size.Size.{Size}
 use Rattle.recalc.specs.Sheets.{Sheet, shown}
 use Rattle.recalc.specs.Entries.{entry, entries_from}
 use Rattle.recalc.specs.Showing.{nth_shown, sheet_values, ShownIn}
-use Rattle.recalc.specs.EntriesLemmas.{same_entries, entry_at}
-use Rattle.recalc.proofs.Rows.{two_numbers, values_length}
+use Rattle.recalc.specs.EntriesLemmas.{same_entries}
+use Rattle.recalc.proofs.Rows.{values_length, values_entries, value_entry}
 use Rattle.shift.specs.declared.shift.Axis.{Axis}
 use Rattle.shift.specs.declared.shift.Axis.TheVariants.{Row, Column}
 use Rattle.shift.specs.declared.shift.Change.{Change}
@@ -57,12 +57,10 @@ module _ (d : Shift) (s : Sheet) (row : List ℕ) (k : Shiftable d (size_of s)) 
   entry_shown i j u v =
       let n = i * s.cols + j in
       let l : n < s.rows * s.cols = omega (arith, mul-add-lt i s.cols j s.rows u v) in
-      let zero_left : 0 + n ≡ n = omega arith in
       let r = div-mul-add i s.cols j v in
       let c = mod-mul-add i s.cols j v in
       ap (entry value_len n) is
-      ∙ entry_at (λ m. value_numbers (nth_shown s m)) value_len (s.rows * s.cols) (λ m q. two_numbers (nth_shown s m)) 0 (s.rows * s.cols) n _ (omega arith) l
-      ∙ ap (λ m. value_numbers (nth_shown s m)) zero_left
+      ∙ value_entry (nth_shown s) (s.rows * s.cols) n _ l
       ∙ ap (λ m. value_numbers (shown s m (n % s.cols))) r
       ∙ ap (λ m. value_numbers (shown s i m)) c
 
@@ -84,7 +82,8 @@ module _ (d : Shift) (s : Sheet) (row : List ℕ) (k : Shiftable d (size_of s)) 
       let left = cells_of (size_after d (size_of s)) in
       let rest = replicate (value_len * (cells_of (size_of s) - left)) 0 ++ drop (value_len * max (cells_of (size_of s)) left) row in
       let all : entries_from (coming value_len d (size_of s) row) 0 left ≡ sheet_values (shifted d s) =
-      same_entries (coming value_len d (size_of s) row) (λ n. value_numbers (nth_shown (shifted d s) n)) 0 left (λ n a b. coming_shown n (omega arith)) in
+      same_entries (coming value_len d (size_of s) row) (λ n. value_numbers (nth_shown (shifted d s) n)) 0 left (λ n a b. coming_shown n (omega arith))
+      ∙ sym (values_entries (nth_shown (shifted d s)) 0 left) in
       let long = values_length (nth_shown (shifted d s)) 0 left in
       let back : drop (value_len * left) (shifted_entries value_len d (size_of s) row) ≡ rest = ap (λ ys. drop (value_len * left) (ys ++ rest)) all ∙ drop_at (sheet_values (shifted d s)) rest (value_len * left) long in
       ap (λ ys. ys ++ rest) all ∙ ap (λ ys. sheet_values (shifted d s) ++ ys) (sym back)

@@ -1,6 +1,6 @@
 -- A stair with a row inserted and with a row deleted: what its cells then hold and show. Assumes nothing: these are definitions and a statement.
-use Rattle.std.specs.Prelude.{◌≡◌, ℕ, List, [], ◌∷◌, Some, None, Option}
-use Rattle.formula.specs.Formula.{Formula, cell}
+use Rattle.std.specs.Prelude.{◌≡◌, ℕ, List, [], ◌∷◌, Some, None}
+use Rattle.formula.specs.Formula.{cell}
 use Rattle.evaluate.specs.declared.value.CellError.TheVariants.{Lost}
 use Rattle.evaluate.specs.declared.value.Value.{Value}
 use Rattle.evaluate.specs.declared.value.Value.TheVariants.{Empty, Number, Error}

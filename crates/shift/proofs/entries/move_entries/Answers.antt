@@ -3,15 +3,16 @@ use Rattle.std.proofs.lemmas.List.{take_rest}
 use Rattle.shift.specs.Entries.{cells_of, size_after, first_entry, origin_behind, placed}
 use Rattle.shift.proofs.Grids.{Cuts, cuts, put_behind, whole_grid}
 use Rattle.shift.proofs.entries.move_entries.Goals as goal
+use Rattle.shift.proofs.entries.move_entries.Goals.{After-first_entry}
 
-parts : (c : goal.After-first_entry) → Cuts c.args.len c.args.shift c.args.size (length c.args.entries.now) c.first_entry.result
+parts : (c : After-first_entry) → Cuts c.args.len c.args.shift c.args.size (length c.args.entries.now) c.first_entry.result
 parts c = cuts c.args.len c.args.shift c.args.size (length c.args.entries.now) c.first_entry.result c.requires.shiftable c.requires.room c.first_entry.ensures
 
-pub slice-bounds-move_behind-count : goal.slice-bounds-move_behind-count
-slice-bounds-move_behind-count c = (parts c).first
+pub slice_bounds-move_behind-count : goal.slice_bounds-move_behind-count
+slice_bounds-move_behind-count c = (parts c).first
 
-pub slice-bounds-move_behind-start : goal.slice-bounds-move_behind-start
-slice-bounds-move_behind-start c = (parts c).first
+pub slice_bounds-move_behind-start : goal.slice_bounds-move_behind-start
+slice_bounds-move_behind-start c = (parts c).first
 
 pub move_behind-requires : goal.move_behind-requires
 move_behind-requires c =

@@ -3,8 +3,8 @@ use Rattle.shift.specs.Entries.{origin, first_entry}
 use Rattle.shift.proofs.Origins.{origins}
 use Rattle.shift.proofs.shift.Shift.origin_behind.Goals as goal
 
-pub overflow-sub-result : goal.overflow-sub-result
-overflow-sub-result c =
+pub overflow_sub-result : goal.overflow_sub-result
+overflow_sub-result c =
     let d = c.args.self in
     let size = c.args.size in
     let first = first_entry d size in
