@@ -6,7 +6,6 @@ use Rattle.formula.specs.Formula.{Formula}
 use Rattle.formula.specs.Tokens.{the_ref}
 use Rattle.formula.specs.declared.token.CellRef.{CellRef}
 use Rattle.evaluate.specs.declared.value.Value.{Value}
-use Rattle.evaluate.specs.Values.{value_numbers}
 use Rattle.evaluate.specs.Limits.{max_cells}
 use Rattle.recalc.specs.declared.size.Size.{Size}
 use Rattle.recalc.specs.declared.refusal.Refusal.TheVariants.{Outside}
@@ -16,8 +15,7 @@ use Rattle.recalc.specs.Sheets.{Sheet, inside, held, Same, sheet_in}
 use Rattle.recalc.specs.Numbered.{count, nth_cell, sheet_language, readable}
 use Rattle.recalc.specs.Change.{shows, flag, change, Updated}
 use Rattle.recalc.specs.Showing.{nth_shown, values_from, sheet_values, ShownIn, table_shows}
-use Rattle.recalc.specs.EntriesLemmas.{same_entries}
-use Rattle.recalc.proofs.Rows.{values_length}
+use Rattle.recalc.proofs.Rows.{values_length, same_values}
 use Rattle.recalc.specs.NumberedLemmas.{number_inside, checked_sized, few_cells, nth_is}
 use Rattle.edit.specs.declared.write.Write as code
 use Rattle.edit.specs.Writes.{Write, written, asked, put_inside, allowed}
@@ -153,8 +151,7 @@ module _ (w : code.Write) (xs vs : List ℕ) (size : Size) (ok : is_ok (checked 
       values_read =
           shown
           ∙ ap (λ zs. zs ++ drop (2 * count (sheet_in xs)) vs)
-          (same_entries (λ i. value_numbers (nth_shown (sheet_in xs) i)) (λ i. value_numbers (shows (take cell_count bs) i)) 0 (count (sheet_in xs))
-          (λ i l u. ap value_numbers (sym (was i (omega arith)))))
+          (same_values (nth_shown (sheet_in xs)) (shows (take cell_count bs)) 0 (count (sheet_in xs)) (λ i l u. sym (was i (omega arith))))
           ∙ ap (λ n. values_from (shows (take cell_count bs)) 0 n ++ drop (2 * n) vs) (sym count_is)
 
       module _ (small : cell_number < cell_count) (ms : List Bool) (mark : ms ≡ set (replicate max_cells false) cell_number true) where

@@ -8,7 +8,6 @@ use Rattle.formula.specs.Formula.{Formula}
 use Rattle.formula.specs.Tokens.{the_ref}
 use Rattle.evaluate.specs.declared.value.Value.{Value}
 use Rattle.evaluate.specs.declared.value.Value.TheVariants.{Empty}
-use Rattle.evaluate.specs.Values.{value_numbers}
 use Rattle.evaluate.specs.Knowledge.{In, here, there}
 use Rattle.evaluate.proofs.Places.{in_none}
 use Rattle.recalc.specs.declared.formulas.Progress.{Progress}
@@ -20,7 +19,7 @@ use Rattle.recalc.specs.Change.{Change, shows, flag, change, Dirty, Updated}
 use Rattle.recalc.specs.Entries.{by_number}
 use Rattle.recalc.specs.Showing.{nth_shown, value_known, values_from, sheet_values, table_shows}
 use Rattle.recalc.specs.Shown.{shown_at}
-use Rattle.recalc.specs.EntriesLemmas.{same_entries}
+use Rattle.recalc.proofs.Rows.{same_values}
 use Rattle.recalc.specs.NumberedLemmas.{inside_is, number_inside}
 use Rattle.recalc.specs.SheetLaws.{laid_inside, laid_same, shown_laid, nth_shown_is}
 use Rattle.recalc.proofs.Shown.{shown_is_consistent, same_shown, laid_by_number}
@@ -204,5 +203,4 @@ module _ (w : Write) (s : Sheet) (cells : ℕ → ℕ → Option Formula) where
         -- and the values of the table are those of the sheet
         pub values_shown : values_from (table_shows t) 0 (count s) ≡ sheet_values sheet_now
         values_shown =
-            same_entries (λ k. value_numbers (table_shows t k)) (λ k. value_numbers (nth_shown sheet_now k)) 0 (count s)
-            (λ k a b. ap value_numbers (table_is k (omega arith)))
+            same_values (table_shows t) (nth_shown sheet_now) 0 (count s) (λ k a b. table_is k (omega arith))

@@ -14,8 +14,8 @@ use Rattle.recalc.specs.Numbered.{count}
 use Rattle.recalc.specs.Change.{shows}
 use Rattle.recalc.specs.Entries.{entry}
 use Rattle.recalc.specs.Showing.{nth_shown, values_from, sheet_values, ShownIn, in_front, unless_refused, answered, kept, Shows, table_shows}
-use Rattle.recalc.specs.EntriesLemmas.{entry_behind, around_entry, entries_length, entry_at, FilledTo, filled_more}
-use Rattle.recalc.proofs.Rows.{two_numbers, values_length}
+use Rattle.recalc.specs.EntriesLemmas.{entry_behind, around_entry, entries_length, FilledTo, filled_more}
+use Rattle.recalc.proofs.Rows.{two_numbers, values_length, value_entry}
 use Rattle.recalc.specs.NumberedLemmas.{checked_size}
 use Rattle.edit.specs.Values.{value_at, with_value}
 use Rattle.edit.proofs.Differing.{read_back}
@@ -37,21 +37,18 @@ module _ (t : List Progress) where
       → FilledTo numbers 2 xs k now
       → table_shows t k ≡ shows before k → next ≡ now → FilledTo numbers 2 xs (k + 1) next
   value_left before xs k now next n l e f same is =
-      let zero_left : 0 + k ≡ k = omega arith in
       let done = entries_length numbers 2 n (λ i h. two_numbers (table_shows t i)) 0 k (omega arith) in
       let there : entry 2 k xs ≡ value_numbers (shows before k) =
-      ap (entry 2 k) e ∙ entry_at (λ i. value_numbers (shows before i)) 2 n (λ i h. two_numbers (shows before i)) 0 n k (drop (2 * n) xs) (omega arith) l
-      ∙ ap (λ i. value_numbers (shows before i)) zero_left in
+      ap (entry 2 k) e ∙ value_entry (shows before) n k (drop (2 * n) xs) l in
       let here : entry 2 k now ≡ numbers k = ap (entry 2 k) f ∙ entry_behind 2 k (2 * k) _ xs done (omega arith) ∙ there ∙ ap value_numbers (sym same) in
       value_written xs k now next n l f (is ∙ around_entry 2 k now ∙ ap (λ ys. take (2 * k) now ++ (ys ++ drop (2 * k + 2) now)) here)
 
 -- the value of a cell in a row of values
 pub value_there : (f : ℕ → Value) (n : ℕ) (xs rest : List ℕ) → xs ≡ values_from f 0 n ++ rest → (k : ℕ) → k < n → value_at xs k ≡ f k
 value_there f n xs rest e k l =
-    let zero_left : 0 + k ≡ k = omega arith in
     let zero_right : 2 * k + 0 ≡ 2 * k = omega arith in
     let is : entry 2 k xs ≡ value_numbers (f k) =
-    ap (entry 2 k) e ∙ entry_at (λ i. value_numbers (f i)) 2 n (λ i h. two_numbers (f i)) 0 n k rest (omega arith) l ∙ ap (λ i. value_numbers (f i)) zero_left in
+    ap (entry 2 k) e ∙ value_entry f n k rest l in
     let first : get_or xs (2 * k) 0 ≡ get_or (value_numbers (f k)) 0 0 =
     ap (λ i. get_or xs i 0) (sym zero_right) ∙ sym (get_or-take 2 (drop (2 * k) xs) 0 0 (omega arith) ∙ get_or-drop (2 * k) xs 0 0) ∙ ap (λ ys. get_or ys 0 0) is in
     let second : get_or xs (2 * k + 1) 0 ≡ get_or (value_numbers (f k)) 1 0 =

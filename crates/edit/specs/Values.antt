@@ -8,7 +8,6 @@ use Rattle.evaluate.specs.Values.{value_numbers, value_in}
 use Rattle.recalc.specs.declared.formulas.Progress.{Progress}
 use Rattle.recalc.specs.Layout.{cell_numbers}
 use Rattle.recalc.specs.Sheets.{formula_in}
-use Rattle.recalc.specs.Table.{at}
 use Rattle.recalc.specs.Change.{shows, flag}
 use Rattle.recalc.specs.Showing.{table_shows}
 use Rattle.edit.specs.Changes.{differs}

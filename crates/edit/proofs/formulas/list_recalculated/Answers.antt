@@ -24,12 +24,12 @@ loop-k-preserved c =
     let other : Changes → List CellRef = λ x. vec_items x.changed in
     let inv = c.loop-k.invariant in
     elim c.if-is_recalculated.branch [
-      | then-is-recalculated w ↦ (
+      | then-is_recalculated w ↦ (
         ap at w.changes-is
             ∙ places_add c.args.cols f k _ _ _ inv.0 w.add_recalculated.ensures.recalculated w.place_of.ensures (sym w.if-is_recalculated.ensures),
         ap other w.changes-is ∙ w.add_recalculated.ensures.changed ∙ inv.1,
       )
-      | else-is-recalculated w ↦ (
+      | else-is_recalculated w ↦ (
         ap at w.changes-is ∙ places_pass c.args.cols f k _ inv.0 (sym w.if-is_recalculated.ensures),
         ap other w.changes-is ∙ inv.1,
       )

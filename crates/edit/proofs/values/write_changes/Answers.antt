@@ -1,8 +1,9 @@
-use Rattle.std.proofs.Common.{◌≡◌, List, length, vec_items, sym, refl, ap, ◌∙◌, arith}
+use Rattle.std.proofs.Common.{◌≡◌, ℕ, ◌*◌, List, ◌++◌, length, drop, vec_items, sym, refl, ap, ◌∙◌, subst, arith}
 use Rattle.formula.specs.declared.token.CellRef.{CellRef}
 use Rattle.evaluate.specs.Values.{value_numbers}
 use Rattle.recalc.specs.Change.{shows}
-use Rattle.recalc.specs.EntriesLemmas.{filled_none}
+use Rattle.recalc.specs.EntriesLemmas.{FilledTo, filled_none}
+use Rattle.recalc.proofs.Rows.{values_entries}
 use Rattle.edit.specs.declared.changes.Changes.{Changes}
 use Rattle.edit.specs.Places.{places_from}
 use Rattle.edit.specs.Changes.{differs}
@@ -37,16 +38,26 @@ loop-k-preserved c =
     let e = c.known_value-value.ensures in
     let tested : f k ≡ differs c.known_value-value.result (shows vs k) = ap (λ v. differs v (shows vs k)) (sym e) in
     elim c.if-is_changed.branch [
-      | then-is-changed w ↦ (
+      | then-is_changed w ↦ (
         value_written t xs k c.loop-k.values _ n c.loop-k-test.true inv.0 (w.values-is ∙ w.put_value.ensures ∙ ap (with_value c.loop-k.values k) e),
         ap listed w.changes-is
             ∙ places_add c.args.cols f k _ _ _ inv.1 w.add_changed.ensures.changed w.place_of.ensures (tested ∙ sym w.if-is_changed.ensures),
         ap other w.changes-is ∙ w.add_changed.ensures.recalculated ∙ inv.2,
       )
-      | else-is-changed w ↦ (
+      | else-is_changed w ↦ (
         let d = not_differs _ _ (sym w.if-is_changed.ensures) in
             value_left t vs xs k c.loop-k.values _ n c.loop-k-test.true c.requires.shown inv.0 (sym e ∙ d) w.values-is,
         ap listed w.changes-is ∙ places_pass c.args.cols f k _ inv.1 (tested ∙ sym w.if-is_changed.ensures),
         ap other w.changes-is ∙ inv.2,
       )
     ]
+
+pub returns-clause-values : goal.returns-clause-values
+returns-clause-values c =
+    let t = c.args.table.now in
+    let n = length t in
+    let xs = c.args.values.now in
+    let f : ℕ → List ℕ = λ i. value_numbers (table_shows t i) in
+    let e : c.loop-k.k ≡ n = omega arith in
+    let filled : FilledTo f 2 xs n c.loop-k.values = subst (λ i. FilledTo f 2 xs i c.loop-k.values) e c.loop-k.invariant.0 in
+    filled ∙ ap (λ ys. ys ++ drop (2 * n) xs) (sym (values_entries (table_shows t) 0 n))
