@@ -3,6 +3,7 @@ use crate::sheets::{add_cell, new_sheet};
 use edit::{Changes, Content, Room, Write, write_shown};
 use formula::CellRef;
 use std::alloc::{AllocError, Global};
+use std::process::Abort;
 use std::test::*;
 
 // A sheet with what is lent to its writes.
@@ -45,7 +46,7 @@ impl Desk {
         })
     }
 
-    fn refuses(&mut self, col: u64, tokens: &[u64], number: u64) -> Result<(), Fail> {
+    fn refuses(&mut self, rt: &impl Abort, col: u64, tokens: &[u64], number: u64) -> Result<(), Fail> {
         let write = Write {
             place: CellRef { row: 0, col },
             content: Content::Formula(tokens),
@@ -59,15 +60,15 @@ impl Desk {
         ) {
             Ok(()) => Err(Fail::new("not refused")),
             Err(refusal) => {
-                assert_eq!(refusal.number(), number);
+                assert_eq!(rt; refusal.number(), number);
                 Ok(())
             },
         }
     }
 
-    fn writes(&mut self, col: u64, tokens: &[u64], told: &str, worked: &str) -> Result<(), Fail> {
+    fn writes(&mut self, rt: &impl Abort, col: u64, tokens: &[u64], told: &str, worked: &str) -> Result<(), Fail> {
         let write = write_of(col, tokens);
-        assert!(write_shown(
+        assert!(rt; write_shown(
             self.sheet.as_mut_slice(),
             &mut self.values,
             write,
@@ -76,16 +77,16 @@ impl Desk {
         )
         .is_ok());
         let changed = listed(self.heap, self.changes.changed())?;
-        assert_eq!(changed.as_str(), told, "told");
+        assert_eq!(rt; changed.as_str(), told, "told");
         let recalculated = listed(self.heap, self.changes.recalculated())?;
-        assert_eq!(recalculated.as_str(), worked, "worked");
+        assert_eq!(rt; recalculated.as_str(), worked, "worked");
         Ok(())
     }
 
-    fn shows(&self, expected: &[u64]) -> Result<(), Fail> {
+    fn shows(&self, rt: &impl Abort, expected: &[u64]) -> Result<(), Fail> {
         match self.values.get(0..expected.len()) {
             Some(values) => {
-                assert_eq!(values, expected);
+                assert_eq!(rt; values, expected);
                 Ok(())
             },
             None => Err(Fail::new("more than there is")),
@@ -119,42 +120,43 @@ const SMALL: [u64; 25] = [
 #[test]
 fn only_what_has_to_be(rt: HostRuntime) -> Result<(), Fail> {
     let mut desk = Desk::of(rt.alloc(), &[&FIVE, &SMALL, &next_to(1), &[]])?;
-    desk.writes(0, &[0, 6, 0, 0, 0], " 0,0", " 0,0 0,1")
-        .note("(0,1) shows what it did")?;
-    desk.writes(0, &[0, 6, 0, 0, 0], "", " 0,0")
-        .note("nothing changes")?;
-    desk.writes(0, &[0, 200, 0, 0, 0], " 0,0 0,1 0,2", " 0,0 0,1 0,2")?;
-    desk.shows(&[1, 200, 1, 2, 1, 3, 0, 0, 7])?;
-    desk.writes(3, &[1, 0, 9, 0, 0], " 0,3", " 0,3")
-        .note("a place outside the sheet")?;
-    desk.writes(0, &[], " 0,0 0,1 0,2", " 0,1 0,2")
-        .note("a blank is not worked out")?;
-    desk.shows(&[0, 0, 1, 1, 1, 2, 1, 0, 7])
+    // (0,1) shows what it did.
+    desk.writes(&rt, 0, &[0, 6, 0, 0, 0], " 0,0", " 0,0 0,1")?;
+    // Nothing changes.
+    desk.writes(&rt, 0, &[0, 6, 0, 0, 0], "", " 0,0")?;
+    desk.writes(&rt, 0, &[0, 200, 0, 0, 0], " 0,0 0,1 0,2", " 0,0 0,1 0,2")?;
+    desk.shows(&rt, &[1, 200, 1, 2, 1, 3, 0, 0, 7])?;
+    // A place outside the sheet.
+    desk.writes(&rt, 3, &[1, 0, 9, 0, 0], " 0,3", " 0,3")?;
+    // A blank is not worked out.
+    desk.writes(&rt, 0, &[], " 0,0 0,1 0,2", " 0,1 0,2")?;
+    desk.shows(&rt, &[0, 0, 1, 1, 1, 2, 1, 0, 7])
 }
 
 #[test]
 fn a_cycle_appears_grows_and_dissolves(rt: HostRuntime) -> Result<(), Fail> {
     let mut desk = Desk::of(rt.alloc(), &[&FIVE, &next_to(0), &FIVE])?;
-    desk.writes(0, &[1, 0, 1, 0, 0], " 0,0 0,1", " 0,0 0,1")
-        .note("a cycle of two")?;
-    desk.writes(2, &next_to(1), " 0,2", " 0,2")
-        .note("a cell beside it")?;
-    desk.writes(0, &[1, 0, 2, 0, 0], "", " 0,0")
-        .note("a cycle of three")?;
-    desk.shows(&[2, 4, 2, 4, 2, 4, 7])?;
-    desk.writes(0, &FIVE, " 0,0 0,1 0,2", " 0,0 0,1 0,2")
-        .note("none any more")?;
-    desk.shows(&[1, 5, 1, 6, 1, 7, 7])
+    // A cycle of two.
+    desk.writes(&rt, 0, &[1, 0, 1, 0, 0], " 0,0 0,1", " 0,0 0,1")?;
+    // A cell beside it.
+    desk.writes(&rt, 2, &next_to(1), " 0,2", " 0,2")?;
+    // A cycle of three.
+    desk.writes(&rt, 0, &[1, 0, 2, 0, 0], "", " 0,0")?;
+    desk.shows(&rt, &[2, 4, 2, 4, 2, 4, 7])?;
+    // None any more.
+    desk.writes(&rt, 0, &FIVE, " 0,0 0,1 0,2", " 0,0 0,1 0,2")?;
+    desk.shows(&rt, &[1, 5, 1, 6, 1, 7, 7])
 }
 
 #[test]
 fn writes_refused(rt: HostRuntime) -> Result<(), Fail> {
     let mut desk = Desk::of(rt.alloc(), &[&FIVE, &next_to(0)])?;
-    desk.refuses(0, &[], 4).note("no token")?;
-    desk.refuses(0, &[14, 0, 0, 0, 0], 4)?;
-    desk.refuses(2, &FIVE, 6)?;
-    desk.refuses(2, &[14, 0, 0, 0, 0], 4)
-        .note("4 comes before 6")?;
-    desk.refuses(u64::MAX, &FIVE, 6)?;
-    desk.shows(&[1, 5, 1, 6, 7])
+    // No token.
+    desk.refuses(&rt, 0, &[], 4)?;
+    desk.refuses(&rt, 0, &[14, 0, 0, 0, 0], 4)?;
+    desk.refuses(&rt, 2, &FIVE, 6)?;
+    // 4 comes before 6.
+    desk.refuses(&rt, 2, &[14, 0, 0, 0, 0], 4)?;
+    desk.refuses(&rt, u64::MAX, &FIVE, 6)?;
+    desk.shows(&rt, &[1, 5, 1, 6, 7])
 }

@@ -56,12 +56,18 @@ fn operations_are_nested(rt: HostRuntime) -> Result<(), Fail> {
 #[test]
 fn malformed_rows_are_seen(rt: HostRuntime) -> Result<(), Fail> {
     let heap = rt.alloc();
-    reads(&rt, heap, "", "malformed").note("no token")?;
-    reads(&rt, heap, "14 0 0 0 0", "malformed").note("unknown kind")?;
-    reads(&rt, heap, "9 0 0 0 0  0 1 0 0 0", "malformed").note("too few tokens")?;
-    reads(&rt, heap, "0 1 0 0 0  0 2 0 0 0", "malformed").note("too many tokens")?;
-    reads(&rt, heap, "0 1 0 0", "malformed").note("cut off in a token")?;
-    reads(&rt, heap, "9 0 0 0 0  0 1 0 0 0  0 2 0", "malformed").note("cut off in an operand")
+    // No token.
+    reads(&rt, heap, "", "malformed")?;
+    // Unknown kind.
+    reads(&rt, heap, "14 0 0 0 0", "malformed")?;
+    // Too few tokens.
+    reads(&rt, heap, "9 0 0 0 0  0 1 0 0 0", "malformed")?;
+    // Too many tokens.
+    reads(&rt, heap, "0 1 0 0 0  0 2 0 0 0", "malformed")?;
+    // Cut off in a token.
+    reads(&rt, heap, "0 1 0 0", "malformed")?;
+    // Cut off in an operand.
+    reads(&rt, heap, "9 0 0 0 0  0 1 0 0 0  0 2 0", "malformed")
 }
 
 // So many additions in a row, and the numbers that they need.

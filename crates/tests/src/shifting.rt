@@ -116,10 +116,14 @@ fn inserting(rt: &impl Abort, heap: Global, axis: Axis) -> Result<(), Fail> {
         &reference(axis, u64::MAX),
         &reference(axis, u64::MAX),
     )?;
-    becomes(rt, heap, at, &total(axis, 0, 2), &total(axis, 0, 2)).note("behind its last")?;
-    becomes(rt, heap, at, &total(axis, 0, 3), &total(axis, 0, 4)).note("before its last")?;
-    becomes(rt, heap, at, &total(axis, 1, 2), &total(axis, 1, 3)).note("behind its first")?;
-    becomes(rt, heap, at, &total(axis, 2, 1), &total(axis, 3, 1)).note("before its first")?;
+    // Behind its last.
+    becomes(rt, heap, at, &total(axis, 0, 2), &total(axis, 0, 2))?;
+    // Before its last.
+    becomes(rt, heap, at, &total(axis, 0, 3), &total(axis, 0, 4))?;
+    // Behind its first.
+    becomes(rt, heap, at, &total(axis, 1, 2), &total(axis, 1, 3))?;
+    // Before its first.
+    becomes(rt, heap, at, &total(axis, 2, 1), &total(axis, 3, 1))?;
     becomes(rt, heap, at, &total(axis, 2, 0), &total(axis, 3, 0))?;
     becomes(
         rt,
@@ -137,15 +141,20 @@ fn deleting(rt: &impl Abort, heap: Global, axis: Axis) -> Result<(), Fail> {
         line: 2,
     };
     becomes(rt, heap, at, &reference(axis, 1), &reference(axis, 1))?;
-    becomes(rt, heap, at, &reference(axis, 2), &[2, 0, 0, 0, 0]).note("outside the sheet too")?;
+    // Outside the sheet too.
+    becomes(rt, heap, at, &reference(axis, 2), &[2, 0, 0, 0, 0])?;
     becomes(rt, heap, at, &reference(axis, 3), &reference(axis, 2))?;
-    becomes(rt, heap, at, &[2, 0, 0, 0, 0], &[2, 0, 0, 0, 0]).note("lost stays lost")?;
+    // Lost stays lost.
+    becomes(rt, heap, at, &[2, 0, 0, 0, 0], &[2, 0, 0, 0, 0])?;
     becomes(rt, heap, at, &total(axis, 2, 1), &[6, 0, 0, 0, 0])?;
-    becomes(rt, heap, at, &total(axis, 1, 2), &total(axis, 1, 1)).note("its last")?;
-    becomes(rt, heap, at, &total(axis, 2, 2), &total(axis, 2, 1)).note("its first")?;
+    // Its last.
+    becomes(rt, heap, at, &total(axis, 1, 2), &total(axis, 1, 1))?;
+    // Its first.
+    becomes(rt, heap, at, &total(axis, 2, 2), &total(axis, 2, 1))?;
     becomes(rt, heap, at, &total(axis, 0, 2), &total(axis, 0, 2))?;
     becomes(rt, heap, at, &total(axis, 3, 1), &total(axis, 2, 1))?;
-    becomes(rt, heap, at, &total(axis, 2, 0), &total(axis, 2, 0)).note("no line of it")
+    // No line of it.
+    becomes(rt, heap, at, &total(axis, 2, 0), &total(axis, 2, 0))
 }
 
 #[test]
@@ -259,8 +268,11 @@ fn at_edges(
     last: u64,
     after: Size,
 ) -> Result<(), Fail> {
-    arrives(rt, heap, size, Shift { line: 0, ..shift }, after).note("line 0")?;
-    arrives(rt, heap, size, Shift { line: 3, ..shift }, after).note("line 3")?;
+    // Line 0.
+    arrives(rt, heap, size, Shift { line: 0, ..shift }, after)?;
+    // Line 3.
+    arrives(rt, heap, size, Shift { line: 3, ..shift }, after)?;
+    // The last line.
     arrives(
         rt,
         heap,
@@ -271,7 +283,6 @@ fn at_edges(
         },
         after,
     )
-    .note("the last line")
 }
 
 #[test]
@@ -333,8 +344,10 @@ fn refuses(
 fn refusals(rt: HostRuntime) -> Result<(), Fail> {
     let heap = rt.alloc();
     let small = Size { rows: 2, cols: 1 };
-    refuses(&rt, heap, LARGEST, INSERT_ROW, LARGEST, 8).note("as many rows as there may be")?;
+    // As many rows as there may be.
+    refuses(&rt, heap, LARGEST, INSERT_ROW, LARGEST, 8)?;
     refuses(&rt, heap, LARGEST, INSERT_COLUMN, LARGEST, 8)?;
+    // 7 comes before 8.
     refuses(
         &rt,
         heap,
@@ -345,8 +358,7 @@ fn refusals(rt: HostRuntime) -> Result<(), Fail> {
         },
         LARGEST,
         7,
-    )
-    .note("7 comes before 8")?;
+    )?;
     refuses(
         &rt,
         heap,
@@ -369,7 +381,9 @@ fn refusals(rt: HostRuntime) -> Result<(), Fail> {
         LARGEST,
         7,
     )?;
-    refuses(&rt, heap, small, DELETE_COLUMN, LARGEST, 9).note("the only column")?;
+    // The only column.
+    refuses(&rt, heap, small, DELETE_COLUMN, LARGEST, 9)?;
+    // 7 comes before 9.
     refuses(
         &rt,
         heap,
@@ -380,12 +394,11 @@ fn refusals(rt: HostRuntime) -> Result<(), Fail> {
         },
         LARGEST,
         7,
-    )
-    .note("7 comes before 9")?;
-    refuses(&rt, heap, small, INSERT_ROW, small, 8).note("the opening's bound")?;
-    refuses(&rt, heap, small, INSERT_ROW, Size { rows: 1, cols: 1 }, 1).note(
-        "more rows than there may be",
     )?;
+    // The opening's bound.
+    refuses(&rt, heap, small, INSERT_ROW, small, 8)?;
+    // More rows than there may be.
+    refuses(&rt, heap, small, INSERT_ROW, Size { rows: 1, cols: 1 }, 1)?;
     refuses(&rt, heap, small, INSERT_ROW, Size { rows: 41, cols: 12 }, 1)
 }
 

@@ -35,8 +35,10 @@ fn cells_and_numbers(rt: HostRuntime) -> Result<(), Fail> {
     comes_to(&rt, heap, "", "malformed")?;
     comes_to(&rt, heap, "0 9 0 0 0", "9")?;
     comes_to(&rt, heap, "1 0 0 0 0", "5")?;
-    comes_to(&rt, heap, "1 0 1 0 0", "0").note("an empty cell counts as 0")?;
-    comes_to(&rt, heap, "1 3 0 0 0", "0").note("outside the sheet")?;
+    // An empty cell counts as 0.
+    comes_to(&rt, heap, "1 0 1 0 0", "0")?;
+    // Outside the sheet.
+    comes_to(&rt, heap, "1 3 0 0 0", "0")?;
     comes_to(&rt, heap, "1 1 1 0 0", "by-nothing")?;
     comes_to(&rt, heap, "1 1 2 0 0", "ring")?;
     comes_to(&rt, heap, "1 2 1 0 0", "needs 2,1")?;
@@ -47,18 +49,26 @@ fn cells_and_numbers(rt: HostRuntime) -> Result<(), Fail> {
 fn ranges(rt: HostRuntime) -> Result<(), Fail> {
     let heap = rt.alloc();
     comes_to(&rt, heap, "3 0 2 0 1", "12")?;
-    comes_to(&rt, heap, "3 0 0 0 3", "0").note("no rows")?;
-    comes_to(&rt, heap, "3 0 3 0 0", "0").note("no columns")?;
-    comes_to(&rt, heap, "3 7 2 7 2", "0").note("outside the sheet")?;
-    comes_to(&rt, heap, "3 1 9 0 1", "7").note("beyond the sheet")?;
+    // No rows.
+    comes_to(&rt, heap, "3 0 0 0 3", "0")?;
+    // No columns.
+    comes_to(&rt, heap, "3 0 3 0 0", "0")?;
+    // Outside the sheet.
+    comes_to(&rt, heap, "3 7 2 7 2", "0")?;
+    // Beyond the sheet.
+    comes_to(&rt, heap, "3 1 9 0 1", "7")?;
     let most = "3 0 18446744073709551615 0 1";
-    comes_to(&rt, heap, most, "12").note("as many rows as a number can say")?;
+    // As many rows as a number can say.
+    comes_to(&rt, heap, most, "12")?;
     comes_to(&rt, heap, "3 1 18446744073709551615 0 1", "7")?;
-    comes_to(&rt, heap, "4 0 1 0 3", "2").note("empty cells are not counted")?;
+    // Empty cells are not counted.
+    comes_to(&rt, heap, "4 0 1 0 3", "2")?;
     comes_to(&rt, heap, "5 0 2 0 1", "7")?;
-    comes_to(&rt, heap, "5 0 1 1 1", "0").note("no number at all")?;
+    // No number at all.
+    comes_to(&rt, heap, "5 0 1 1 1", "0")?;
     comes_to(&rt, heap, "3 0 1 0 3", "too-big")?;
-    comes_to(&rt, heap, "3 0 2 0 3", "by-nothing").note("a later error comes first")?;
+    // A later error comes first.
+    comes_to(&rt, heap, "3 0 2 0 3", "by-nothing")?;
     comes_to(&rt, heap, "4 2 1 0 3", "needs 2,1")?;
     comes_to(&rt, heap, "6 0 0 0 0", "lost")
 }
@@ -77,11 +87,14 @@ fn operations(rt: HostRuntime) -> Result<(), Fail> {
     )?;
     comes_to(&rt, heap, "12 0 0 0 0  0 7 0 0 0  0 2 0 0 0", "3")?;
     comes_to(&rt, heap, "12 0 0 0 0  0 7 0 0 0  1 0 1 0 0", "by-nothing")?;
-    comes_to(&rt, heap, "9 0 0 0 0  2 0 0 0 0  1 2 1 0 0", "lost").note("the first error")?;
+    // The first error.
+    comes_to(&rt, heap, "9 0 0 0 0  2 0 0 0 0  1 2 1 0 0", "lost")?;
     let taken = "13 0 0 0 0  0 1 0 0 0  0 2 0 0 0  0 3 0 0 0  1 1 2 0 0";
-    comes_to(&rt, heap, taken, "3").note("an error in the other branch")?;
+    // An error in the other branch.
+    comes_to(&rt, heap, taken, "3")?;
     let other = "13 0 0 0 0  0 2 0 0 0  0 2 0 0 0  1 2 1 0 0  0 4 0 0 0";
-    comes_to(&rt, heap, other, "4").note("a cell not known in the other branch")
+    // A cell not known in the other branch.
+    comes_to(&rt, heap, other, "4")
 }
 
 fn looks_at(rt: &impl Abort, heap: Global, row: &str, expected: &str) -> Result<(), Fail> {
@@ -107,8 +120,10 @@ fn places_looked_at(rt: HostRuntime) -> Result<(), Fail> {
     let heap = rt.alloc();
     looks_at(&rt, heap, "14 0 0 0 0", "refused")?;
     looks_at(&rt, heap, "0 1 0 0 0", "")?;
-    looks_at(&rt, heap, "3 0 3 0 3", " 0,0 0,1 0,2 1,0 1,1").note("up to the first error")?;
-    looks_at(&rt, heap, "3 0 9 0 1", " 0,0 1,0 2,0").note("only places of the sheet")?;
+    // Up to the first error.
+    looks_at(&rt, heap, "3 0 3 0 3", " 0,0 0,1 0,2 1,0 1,1")?;
+    // Only places of the sheet.
+    looks_at(&rt, heap, "3 0 9 0 1", " 0,0 1,0 2,0")?;
     looks_at(&rt, heap, "9 0 0 0 0  1 3 0 0 0  1 0 0 0 0", " 0,0")?;
     let choice = "13 0 0 0 0  1 0 0 0 0  1 1 0 0 0  1 2 0 0 0  1 1 2 0 0";
     looks_at(&rt, heap, choice, " 0,0 1,0 2,0")
