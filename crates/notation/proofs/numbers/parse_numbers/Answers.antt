@@ -21,10 +21,10 @@ loop-byte-preserved c =
     let i = c.loop-byte.byte-index in
     let ns = vec_items c.loop-byte.numbers in
     elim c.if-is_white.branch [
-      | then-is-white+in-ok-keep w ↦
+      | then-is_white+in_ok-keep w ↦
           rw (w.numbers-is, w.word-is, w.in_ok-keep.ensures)
           (after_white xs i ns c.loop-byte.word c.loop-byte.invariant (omega arith) (sym c.is_white.ensures ∙ w.if-is_white.true))
-      | else-is-white+in-Some w ↦
+      | else-is_white+in-Some w ↦
           rw (w.numbers-is, w.word-is)
           (after_digit xs i ns c.loop-byte.word c.loop-byte.invariant w.in-Some.number (omega arith) (sym c.is_white.ensures ∙ w.if-is_white.false)
           (ap (λ (n : ℕ). appended n (get_or xs i 0)) (sym w.unwrap_or.ensures) ∙ sym w.in-Some.ensures))
