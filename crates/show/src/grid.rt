@@ -26,7 +26,8 @@ fn add_row<G: Grid>(lines: &mut String, grid: &G, cols: u64, row: u64) -> fmt::R
     for col in 0..cols {
         grid.add_entry(lines, row, col)?;
     }
-    writeln!(lines)
+    writeln!(lines)?;
+    Ok(())
 }
 
 pub fn add_grid<G: Grid>(lines: &mut String, grid: &G, rows: u64, cols: u64) -> fmt::Result
