@@ -37,7 +37,7 @@ fn name(aggregate: Aggregate) -> &'static str
 }
 
 fn write_cell<W: fmt::Write>(cell: Option<CellRef>, f: &mut fmt::Formatter<W>) -> fmt::Result
-    ensures { DisplaysOnOk write_str_gives f.old result (Some (cell_text cell)) f.new }
+    ensures { DisplaysOnOk W.write_str_gives f.old result (Some (cell_text cell)) f.new }
 {
     match cell {
         Some(cell) => {
@@ -56,7 +56,7 @@ fn write_fold<W: fmt::Write>(
     range: Option<Range>,
     f: &mut fmt::Formatter<W>,
 ) -> fmt::Result
-    ensures { DisplaysOnOk write_str_gives f.old result (Some (fold_text aggregate range)) f.new }
+    ensures { DisplaysOnOk W.write_str_gives f.old result (Some (fold_text aggregate range)) f.new }
 {
     let name = name(aggregate);
     match range {
@@ -87,7 +87,7 @@ fn write_operand<W: fmt::Write>(
     f: &mut fmt::Formatter<W>,
 ) -> fmt::Result
     requires { is_some (formula_at nth (reads tokens.now)) ≡ true }
-    ensures { DisplaysOnOk write_str_gives f.old result (option_map (text_in inside) (formula_at nth (reads tokens.now))) f.new }
+    ensures { DisplaysOnOk W.write_str_gives f.old result (option_map (text_in inside) (formula_at nth (reads tokens.now))) f.new }
 {
     let Some((token, rest)) = read_operand(tokens, nth) else {
         unreachable()

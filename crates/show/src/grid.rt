@@ -21,16 +21,17 @@ pub fn gap(between: &'static str, col: u64) -> &'static str
 }
 
 fn add_row<G: Grid>(lines: &mut String, grid: &G, cols: u64, row: u64) -> fmt::Result
-    ensures { OnOk result (string_bytes lines.new ≡ string_bytes lines.old ++ row_text (entry grid.now) cols row) }
+    ensures { OnOk result (string_bytes lines.new ≡ string_bytes lines.old ++ row_text (G.entry grid.now) cols row) }
 {
     for col in 0..cols {
         grid.add_entry(lines, row, col)?;
     }
-    writeln!(lines)
+    writeln!(lines)?;
+    Ok(())
 }
 
 pub fn add_grid<G: Grid>(lines: &mut String, grid: &G, rows: u64, cols: u64) -> fmt::Result
-    ensures { OnOk result (string_bytes lines.new ≡ string_bytes lines.old ++ grid_text (entry grid.now) rows cols) }
+    ensures { OnOk result (string_bytes lines.new ≡ string_bytes lines.old ++ grid_text (G.entry grid.now) rows cols) }
 {
     for row in 0..rows {
         add_row(lines, grid, cols, row)?;

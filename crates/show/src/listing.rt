@@ -14,7 +14,8 @@ fn add_formula(lines: &mut String, place: Place, tokens: &[u64]) -> fmt::Result
     ensures { OnOk result (string_bytes lines.new ≡ string_bytes lines.old ++ formula_line place.row place.col tokens.now) }
 {
     let formula = Notation { tokens };
-    writeln!(lines, "{place} {formula}")
+    writeln!(lines, "{place} {formula}")?;
+    Ok(())
 }
 
 // Adds a line, unless the cell is blank.

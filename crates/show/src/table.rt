@@ -63,7 +63,8 @@ fn add_padded(lines: &mut String, width: usize, entry: Entry) -> fmt::Result
     ensures { OnOk result (string_bytes lines.new ≡ string_bytes lines.old ++ padded width (entry_text entry)) }
 {
     add_spaces(lines, width.saturating_sub(width_of(entry)?))?;
-    write!(lines, "{entry}")
+    write!(lines, "{entry}")?;
+    Ok(())
 }
 
 // Beside the table nothing is wide.

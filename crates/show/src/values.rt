@@ -20,7 +20,8 @@ impl Grid for Plain<'_> {
     fn add_entry(&self, lines: &mut String, row: u64, col: u64) -> fmt::Result {
         let before = gap(" ", col);
         let entry = cell_entry(self.values, self.cols, row, col);
-        write!(lines, "{before}{entry}")
+        write!(lines, "{before}{entry}")?;
+        Ok(())
     }
 }
 

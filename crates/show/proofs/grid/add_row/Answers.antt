@@ -1,6 +1,5 @@
 -- One entry more, and the end of the line.
 use Rattle.std.proofs.Common.{string_bytes, codes, ◌∙◌}
-use Rattle.std.proofs.lemmas.Result.{IfOk-weaker}
 use Rattle.show.proofs.Texts.{text_added, texts_closed}
 use Rattle.show.proofs.grid.add_row.Goals as goal
 
@@ -11,6 +10,4 @@ loop-col-preserved g c =
 pub returns : goal.returns
 returns g c =
     let f = g.G.Grid.entry c.args.grid.now c.args.row in
-    IfOk-weaker c.writeln.result _ _
-    (λ x. texts_closed f c.loop-col.col c.args.cols (string_bytes c.args.lines.now) (string_bytes c.loop-col.lines) _ (codes "\n") c.loop-col-test.false c.loop-col.invariant)
-    c.writeln.ensures.bytes
+    texts_closed f c.loop-col.col c.args.cols (string_bytes c.args.lines.now) (string_bytes c.loop-col.lines) _ (codes "\n") c.loop-col-test.false c.loop-col.invariant c.in_ok-writeln.ensures.bytes
