@@ -46,7 +46,13 @@ impl Desk {
         })
     }
 
-    fn refuses(&mut self, rt: &impl Abort, col: u64, tokens: &[u64], number: u64) -> Result<(), Fail> {
+    fn refuses(
+        &mut self,
+        rt: &impl Abort,
+        col: u64,
+        tokens: &[u64],
+        number: u64,
+    ) -> Result<(), Fail> {
         let write = Write {
             place: CellRef { row: 0, col },
             content: Content::Formula(tokens),
@@ -66,16 +72,25 @@ impl Desk {
         }
     }
 
-    fn writes(&mut self, rt: &impl Abort, col: u64, tokens: &[u64], told: &str, worked: &str) -> Result<(), Fail> {
+    fn writes(
+        &mut self,
+        rt: &impl Abort,
+        col: u64,
+        tokens: &[u64],
+        told: &str,
+        worked: &str,
+    ) -> Result<(), Fail> {
         let write = write_of(col, tokens);
-        assert!(rt; write_shown(
-            self.sheet.as_mut_slice(),
-            &mut self.values,
-            write,
-            &mut self.room,
-            &mut self.changes,
-        )
-        .is_ok());
+        assert!(rt;
+            write_shown(
+                self.sheet.as_mut_slice(),
+                &mut self.values,
+                write,
+                &mut self.room,
+                &mut self.changes,
+            )
+            .is_ok()
+        );
         let changed = listed(self.heap, self.changes.changed())?;
         assert_eq!(rt; changed.as_str(), told, "told");
         let recalculated = listed(self.heap, self.changes.recalculated())?;

@@ -100,7 +100,7 @@ fn write_and_read(rt: &impl Abort, numbers: &mut [u64]) -> Result<(), Fail> {
     assert!(rt; Cell::write(&mut numbers[0..60], &[0, 1, 0, 0, 0]).is_err());
     match Cell::read(numbers) {
         Cell::Formula(tokens) => {
-            assert_eq!(rt; tokens, &[1, 2, 3, 0, 0]);
+            assert_eq!(rt; tokens, [1, 2, 3, 0, 0].as_slice());
             Ok(())
         },
         _ => Err(Fail::new("not read")),
@@ -127,7 +127,7 @@ fn refuses(rt: &impl Abort, heap: Global, text: &str, message: &str) -> Result<(
 fn numbers_are_read(rt: HostRuntime) -> Result<(), Fail> {
     let heap = rt.alloc();
     let numbers = parse_numbers(heap, " 7\t18446744073709551615\r\n00 ")?;
-    assert_eq!(rt; numbers.as_slice(), &[7, u64::MAX, 0]);
+    assert_eq!(rt; numbers.as_slice(), [7, u64::MAX, 0].as_slice());
     let message = "word 2 is no number from 0 to 18446744073709551615";
     refuses(&rt, heap, "7 +1", message)?;
     refuses(&rt, heap, "7 18446744073709551616 x", message)

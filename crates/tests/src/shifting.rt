@@ -431,6 +431,6 @@ fn values_move_with_their_cells(rt: HostRuntime) -> Result<(), Fail> {
     let mut shown = [BEHIND; 20];
     assert!(rt; show_sheet(sheet.as_slice(), &mut shown).is_ok());
     assert_eq!(rt; moved, shown);
-    assert_eq!(rt; &moved[12..16], &[1, 111, 1, 60]);
+    assert_eq!(rt; &moved[12..16], [1, 111, 1, 60].as_slice());
     Ok(())
 }

@@ -1,4 +1,4 @@
-use Rattle.std.proofs.Common.{ℕ, ◌*◌, ◌≤◌, sym, ◌∙◌, arith}
+use Rattle.std.proofs.Common.{sym, ◌∙◌, arith}
 use Rattle.recalc.specs.declared.size.Size.{Size}
 use Rattle.recalc.specs.NumberedLemmas.{few_cells}
 use Rattle.show.proofs.answer.see_sheet.Goals as goal

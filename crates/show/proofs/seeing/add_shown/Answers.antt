@@ -1,7 +1,7 @@
-use Rattle.std.proofs.Common.{◌≡◌, ℕ, ◌-◌, ◌*◌, List, ◌++◌, length, take, drop, IfOk, Ok, Err, string_bytes, Result, sym, ap, ◌∙◌, subst, arith}
+use Rattle.std.proofs.Common.{◌≡◌, ℕ, ◌-◌, ◌*◌, List, ◌++◌, length, take, drop, IfOk, Ok, Err, string_bytes, Result, sym, ap, ◌∙◌, arith}
 use Rattle.std.proofs.lemmas.List.{take_at}
 use Rattle.recalc.specs.declared.size.Size.{Size}
-use Rattle.recalc.specs.Layout.{size_in, checked}
+use Rattle.recalc.specs.Layout.{checked}
 use Rattle.recalc.specs.Sheets.{sheet_in}
 use Rattle.recalc.specs.Showing.{nth_shown, sheet_values}
 use Rattle.recalc.proofs.Rows.{values_length}
