@@ -1,7 +1,7 @@
 -- Numbers that are written with spaces between them are read back. Assumes nothing.
 use Rattle.std.proofs.Common.{◌≡◌, ℕ, ◌^◌, ◌<◌, true, false, List, [], ◌∷◌, ◌++◌, length, Some, Ok, decimal, refl, ◌∙◌, append_assoc, append-nil, arith}
 use Rattle.std.specs.Str.Parse.{digits_value}
-use Rattle.std.specs.List.{AllByRecursion as All}
+use Rattle.std.specs.List.{AllByRecursion}
 use Rattle.std.specs.Str.{all_ascii_digits}
 use Rattle.std.proofs.lemmas.Fmt.{digits_decimal, digits_value-decimal, decimal_nonempty}
 use Rattle.std.proofs.lemmas.Str.Parse.{IsNumeralModel, numerals_by_value, tells_all_ascii_digits}
@@ -27,7 +27,7 @@ closed_some : (w : List ℕ) (rest : List (List ℕ)) → 0 < length w → close
 closed_some [] rest l = absurd (omega arith)
 closed_some (b ∷ w) rest l = refl
 
-pub spaced_read : (done ns : List ℕ) → All (λ n. n < 2 ^ 64) ns → numbers_from done (words (spaced ns)) ≡ Ok (done ++ ns)
+pub spaced_read : (done ns : List ℕ) → AllByRecursion (λ n. n < 2 ^ 64) ns → numbers_from done (words (spaced ns)) ≡ Ok (done ++ ns)
 spaced_read done [] h = rw append-nil
 spaced_read done (n ∷ []) h =
     let one : words_from [] (decimal n ++ []) ≡ decimal n ∷ [] = through [] (decimal n) [] (digits_decimal own n h.0) ∙ closed_some (decimal n) [] (decimal_nonempty n h.0) in

@@ -1,7 +1,7 @@
 -- A text gone through byte by byte, word by word. Assumes nothing.
 use Rattle.std.proofs.Common.{◌≡◌, ℕ, ◌+◌, ◌-◌, ◌*◌, ◌^◌, ◌<◌, ◌≤◌, Bool, true, false, cond, ◌&&◌, ltb, List, [], ◌∷◌, ◌++◌, length, get_or, drop, Some, None, Ok, Err, Option, unwrap_or, refl, ap, ◌∙◌, append-nil, add-one, arith, length-append, drop-cons}
 use Rattle.std.specs.Str.Parse.{digits_value}
-use Rattle.std.specs.Char.{is_ascii_digit, digit_value as digitValue}
+use Rattle.std.specs.Char.{is_ascii_digit, digit_value}
 use Rattle.std.specs.Option.{option_to_list}
 use Rattle.std.specs.Str.{all_ascii_digits}
 use Rattle.std.proofs.lemmas.Int.Digits.{digits_value_push}
@@ -18,8 +18,8 @@ all_push : (w : List ℕ) (b : ℕ) → all_ascii_digits (w ++ b ∷ []) ≡ all
 all_push [] b = grind (arith, nat_tests)
 all_push (c ∷ w) b = rw (all_push w b) (grind (arith, nat_tests))
 
-digit_value : (b : ℕ) → is_ascii_digit b ≡ true → digitValue b ≡ b - 48
-digit_value b h = grind (arith, nat_tests)
+digit_is : (b : ℕ) → is_ascii_digit b ≡ true → digit_value b ≡ b - 48
+digit_is b h = grind (arith, nat_tests)
 
 pub number_push : (w : List ℕ) (b : ℕ) → number (w ++ b ∷ []) ≡ more (number w) b
 number_push w b = rw (all_push w b, digits_value_push 10 w b) (go (all_ascii_digits w) (is_ascii_digit b) (ltb v (2 ^ 64)) refl refl)
@@ -27,9 +27,9 @@ number_push w b = rw (all_push w b, digits_value_push 10 w b) (go (all_ascii_dig
     v : ℕ
     v = digits_value 10 w
 
-    go : (a d t : Bool) → is_ascii_digit b ≡ d → ltb v (2 ^ 64) ≡ t → cond (a && d) (fitting (v * 10 + digitValue b)) None ≡ more (cond a (cond t (Some v) None) None) b
+    go : (a d t : Bool) → is_ascii_digit b ≡ d → ltb v (2 ^ 64) ≡ t → cond (a && d) (fitting (v * 10 + digit_value b)) None ≡ more (cond a (cond t (Some v) None) None) b
     go false d t e h = refl
-    go true true true e h = rw (e, digit_value b e)
+    go true true true e h = rw (e, digit_is b e)
     go true true false e h = grind (arith, nat_tests)
     go true false true e h = rw e
     go true false false e h = refl
