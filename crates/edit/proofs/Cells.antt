@@ -15,9 +15,10 @@ use Rattle.formula.proofs.Contents.{tidy, stored_read}
 use Rattle.recalc.specs.Layout.{header_len, rows_in, cols_in, sheet_len, cell_numbers, is_malformed, first_malformed, size_in, checked, Sized}
 use Rattle.recalc.specs.Sheets.{inside, held, formula_in, sheet_in}
 use Rattle.recalc.specs.Numbered.{count}
-use Rattle.recalc.specs.EntriesLemmas.{part_front}
+use Rattle.recalc.proofs.Entries.{part_front}
 use Rattle.recalc.proofs.Malformed.{none_malformed, each_formed}
-use Rattle.recalc.specs.NumberedLemmas.{inside_is, number_inside, checked_sized, checked_formed, is_checked}
+use Rattle.recalc.specs.SheetLaws.{inside_is, number_inside}
+use Rattle.recalc.proofs.Numbered.{checked_sized, checked_formed, is_checked}
 use Rattle.edit.specs.declared.write.Content.{Content}
 use Rattle.edit.specs.declared.write.Content.TheVariants as the
 use Rattle.edit.specs.Writes.{Write, target, written, asked}

@@ -8,8 +8,7 @@ use Rattle.evaluate.specs.Knowledge.{In}
 use Rattle.evaluate.proofs.Places.{in_none}
 use Rattle.recalc.specs.Sheets.{Sheet, inside, held, cell_shows, cell_looks, shown}
 use Rattle.recalc.specs.Shown.{shown_at, Looks}
-use Rattle.recalc.specs.NumberedLemmas.{inside_is}
-use Rattle.recalc.specs.SheetLaws.{cell_local}
+use Rattle.recalc.specs.SheetLaws.{inside_is, cell_local}
 use Rattle.recalc.proofs.Shown.{shown_is_consistent}
 use Rattle.edit.specs.Writes.{Write, target, written}
 use Rattle.edit.specs.Changes.{differs, differs_at, any_differs, redone}

@@ -16,7 +16,8 @@ use Rattle.recalc.specs.Numbered.{count, nth_cell, sheet_language, readable}
 use Rattle.recalc.specs.Change.{shows, flag, change, Updated}
 use Rattle.recalc.specs.Showing.{nth_shown, values_from, sheet_values, ShownIn, table_shows}
 use Rattle.recalc.proofs.Rows.{values_length, same_values}
-use Rattle.recalc.specs.NumberedLemmas.{number_inside, checked_sized, few_cells, nth_is}
+use Rattle.recalc.specs.SheetLaws.{number_inside}
+use Rattle.recalc.proofs.Numbered.{checked_sized, few_cells, nth_is}
 use Rattle.edit.specs.declared.write.Write as code
 use Rattle.edit.specs.Writes.{Write, written, asked, put_inside, allowed}
 use Rattle.edit.specs.Places.{places_from}

@@ -20,8 +20,8 @@ use Rattle.recalc.specs.Entries.{by_number}
 use Rattle.recalc.specs.Showing.{nth_shown, value_known, values_from, sheet_values, table_shows}
 use Rattle.recalc.specs.Shown.{shown_at}
 use Rattle.recalc.proofs.Rows.{same_values}
-use Rattle.recalc.specs.NumberedLemmas.{inside_is, number_inside}
-use Rattle.recalc.specs.SheetLaws.{laid_inside, laid_same, shown_laid, nth_shown_is}
+use Rattle.recalc.specs.SheetLaws.{inside_is, number_inside, laid_inside, laid_same}
+use Rattle.recalc.proofs.Laid.{shown_laid, nth_shown_is}
 use Rattle.recalc.proofs.Shown.{shown_is_consistent, same_shown, laid_by_number}
 use Rattle.edit.specs.Writes.{Write, target, written}
 use Rattle.edit.specs.Places.{places_from}

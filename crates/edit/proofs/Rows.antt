@@ -14,9 +14,9 @@ use Rattle.recalc.specs.Numbered.{count}
 use Rattle.recalc.specs.Change.{shows}
 use Rattle.recalc.specs.Entries.{entry}
 use Rattle.recalc.specs.Showing.{nth_shown, values_from, sheet_values, ShownIn, in_front, unless_refused, answered, kept, Shows, table_shows}
-use Rattle.recalc.specs.EntriesLemmas.{entry_behind, around_entry, entries_length, FilledTo, filled_more}
+use Rattle.recalc.proofs.Entries.{entry_behind, around_entry, entries_length, FilledTo, filled_more}
 use Rattle.recalc.proofs.Rows.{two_numbers, values_length, value_entry}
-use Rattle.recalc.specs.NumberedLemmas.{checked_size}
+use Rattle.recalc.proofs.Numbered.{checked_size}
 use Rattle.edit.specs.Values.{value_at, with_value}
 use Rattle.edit.proofs.Differing.{read_back}
 

@@ -1,3 +1,7 @@
+pub mod Tries
+pub mod Numbered
+pub mod Laid
+pub mod Entries
 pub mod Malformed
 pub mod Counting
 pub mod Settling
@@ -10,3 +14,4 @@ pub mod Rooms
 pub mod Rows
 pub mod Shown
 pub mod Ways
+pub mod Fitting

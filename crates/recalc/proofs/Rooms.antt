@@ -5,8 +5,7 @@ use Rattle.evaluate.specs.declared.value.Value.{Value}
 use Rattle.recalc.specs.declared.formulas.Progress.{Progress}
 use Rattle.recalc.specs.declared.formulas.Progress.TheVariants.{Waiting, Open, Known}
 use Rattle.recalc.specs.Table.{at, Top, waiting}
-use Rattle.recalc.proofs.Table.{waiting_less, waiting_same}
-use Rattle.recalc.proofs.Table.{waiting_all, waiting_known, popped, open_not, known_not}
+use Rattle.recalc.proofs.Table.{waiting_less, waiting_same, waiting_all, waiting_known, popped, open_not, known_not}
 use Rattle.recalc.specs.Change.{flag, Change, Dirty, Decided, Going, Moved, Note}
 use Rattle.recalc.proofs.Moves.{top_within}
 use Rattle.recalc.proofs.Turns.{done, entered, found_cycle, marks}

@@ -11,8 +11,8 @@ use Rattle.recalc.specs.Sheets.{Sheet}
 use Rattle.recalc.specs.Numbered.{count, sheet_language}
 use Rattle.recalc.specs.Entries.{entry, entries_from}
 use Rattle.recalc.specs.Showing.{nth_shown, values_from, sheet_values, value_known, table_numbers, table_shows}
-use Rattle.recalc.specs.EntriesLemmas.{same_entries, entries_length, entry_at}
-use Rattle.recalc.specs.SheetLaws.{nth_shown_is}
+use Rattle.recalc.proofs.Entries.{same_entries, entries_length, entry_at}
+use Rattle.recalc.proofs.Laid.{nth_shown_is}
 
 -- a value is two numbers
 pub two_numbers : (v : Value) → length (value_numbers v) ≡ 2

@@ -12,9 +12,9 @@ use Rattle.recalc.specs.Sheets as sheets
 use Rattle.recalc.specs.Language.{shown}
 use Rattle.recalc.specs.Numbered.{count, nth_cell, laid, worked, sheet_language}
 use Rattle.recalc.specs.Shown.{Consistent, ShownIsConsistent, DeeperIsTheSame, OnlyAnswer}
-use Rattle.recalc.specs.NumberedLemmas.{inside_is, number_inside}
+use Rattle.recalc.specs.SheetLaws.{inside_is, number_inside, lawful, laid_inside}
 use Rattle.recalc.proofs.Settling.{deeper, only_answer}
-use Rattle.recalc.specs.SheetLaws.{lawful, laid_inside, deep_laid, shown_laid}
+use Rattle.recalc.proofs.Laid.{deep_laid, shown_laid}
 
 -- so it is by numbers
 pub deeper_is_the_same : DeeperIsTheSame

@@ -5,8 +5,7 @@ use Rattle.evaluate.specs.declared.value.Value.{Value}
 use Rattle.recalc.specs.declared.formulas.Progress.{Progress}
 use Rattle.recalc.specs.declared.formulas.Progress.TheVariants.{Waiting, Open, Known}
 use Rattle.recalc.specs.Table.{at}
-use Rattle.recalc.proofs.Table.{by_entry}
-use Rattle.recalc.proofs.Table.{all_waiting}
+use Rattle.recalc.proofs.Table.{by_entry, all_waiting}
 use Rattle.recalc.specs.Change.{flag, Change, Decided, Good, Updated}
 
 pub start : (x : Change) (m : ℕ) (t v : List Progress) (w : List Bool) (s : List ℕ) → m ≡ x.n → length x.written ≡ m → t ≡ replicate m Waiting → v ≡ replicate m Waiting → w ≡ x.written → s ≡ [] → Good x t v w s

@@ -16,9 +16,9 @@ use Rattle.recalc.specs.Language.{Leads, one, more, shown}
 use Rattle.recalc.specs.Numbered.{number_of, nth_cell, laid, LooksAt, sheet_language}
 use Rattle.recalc.specs.Shown.{shown_at, Looks, Way, CycleExactly}
 use Rattle.recalc.specs.Shown as places
-use Rattle.recalc.specs.NumberedLemmas.{inside_is}
+use Rattle.recalc.specs.SheetLaws.{inside_is, lawful, laid_inside, laid_cycle}
 use Rattle.recalc.proofs.Cycles.{leads_to_cycle, leads_back, cycle_leads}
-use Rattle.recalc.specs.SheetLaws.{lawful, laid_inside, laid_cycle, nth_at, shown_laid}
+use Rattle.recalc.proofs.Laid.{nth_at, shown_laid}
 
 module _ (s : Sheet) where
   -- one number looks at another

@@ -12,7 +12,3 @@ pub mod Showing
 pub mod Shown
 pub mod Stair
 pub mod SheetLaws
-pub mod EntriesLemmas
-pub mod NumberedLemmas
-pub mod Fitting
-pub mod Tries

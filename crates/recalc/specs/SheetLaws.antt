@@ -1,9 +1,9 @@
--- A sheet is a lawful language, and what it shows by numbers is what it shows by places. Assumes nothing.
-use Rattle.std.specs.Prelude.{◌≡◌, ℕ, zero, suc, ◌+◌, ◌*◌, ◌/◌, ◌%◌, ◌<◌, Bool, true, false, cond, Some, None, Option}
-use Rattle.std.proofs.Math.Path.{refl, ap, fun_ext}
+-- A sheet is a lawful language: the proof that `Lent` hands to the engine, with its lemmas. Assumes nothing.
+use Rattle.std.specs.Prelude.{◌≡◌, ℕ, ◌<◌, Bool, true, false, cond, Some, None, Option, nat_lt}
+use Rattle.std.proofs.Math.Path.{refl, ap}
 use Rattle.std.proofs.Common.{sym, subst, ◌∙◌, arith}
-use Rattle.std.proofs.lemmas.Bool.{cond-true, lt-ltb}
-use Rattle.std.proofs.lemmas.Nat.{div-mul-add, mod-mul-add, div-add-mod', div_below, mod_below}
+use Rattle.std.proofs.lemmas.Bool.{cond-true, and_parts, ltb-true}
+use Rattle.std.proofs.lemmas.Nat.{mul-add-lt}
 use Rattle.formula.specs.declared.token.CellRef.{CellRef}
 use Rattle.formula.specs.Formula.{Formula}
 use Rattle.evaluate.specs.declared.value.CellError.TheVariants.{Cycle}
@@ -14,12 +14,16 @@ use Rattle.evaluate.specs.Evaluation.{value_of}
 use Rattle.evaluate.specs.Knowledge.{In}
 use Rattle.evaluate.proofs.Places.{in_none}
 use Rattle.evaluate.proofs.Looked.{same_trace, ends_in_error, cycle_looked_at}
-use Rattle.recalc.specs.Sheets.{Sheet, inside, held, cell_shows, cell_looks}
-use Rattle.recalc.specs.Sheets as sheets
-use Rattle.recalc.specs.Language.{Lawful, deep, shown}
-use Rattle.recalc.specs.Showing.{nth_shown}
+use Rattle.recalc.specs.Sheets.{Sheet, inside, cell_shows, cell_looks}
+use Rattle.recalc.specs.Language.{Lawful}
 use Rattle.recalc.specs.Numbered.{count, number_of, nth_cell, laid, worked, LooksAt, sheet_language}
-use Rattle.recalc.specs.NumberedLemmas.{inside_is, number_inside, some_cols}
+
+-- inside, in terms of numbers
+pub inside_is : (s : Sheet) (r c : ℕ) → inside s r c ≡ true → (r < s.rows) × (c < s.cols)
+inside_is s r c e = let t = and_parts (nat_lt r s.rows) (nat_lt c s.cols) e in (ltb-true r s.rows t.0, ltb-true c s.cols t.1)
+
+pub number_inside : (s : Sheet) (q : CellRef) → inside s q.row q.col ≡ true → number_of s q < count s
+number_inside s q e = let l = inside_is s q.row q.col e in omega (arith, mul-add-lt q.row s.cols q.col s.rows l.0 l.1)
 
 -- a cell takes what it takes from the places that it looks at
 pub cell_local : (f g : ℕ → ℕ → Value) (o : Option Formula) → ((q : CellRef) → In q (cell_looks f o) → g q.row q.col ≡ f q.row q.col)
@@ -66,34 +70,3 @@ module _ (s : Sheet) where
         source = λ f k e. let t = cell_source (laid s f) (nth_cell s k) e in let u = laid_cycle f t.0 t.2 in (number_of s t.0, (t.0, t.1, u.0, refl), u.1);
         inside = λ f k j (q, l, within, e). subst (λ n. n < count s) e (number_inside s q within);
       }
-
-  -- the cell at a place of the sheet, by its number
-  pub nth_at : (r c : ℕ) → inside s r c ≡ true → nth_cell s (r * s.cols + c) ≡ held s r c
-  nth_at r c e =
-      let l = (inside_is s r c e).1 in
-      let row = div-mul-add r s.cols c l in
-      let col = mod-mul-add r s.cols c l in
-      rw (row, col)
-
-  -- at each depth the places show what the numbered cells show
-  pub deep_laid : (n r c : ℕ) → sheets.deep n s r c ≡ laid s (deep (sheet_language s) n) r c
-  unfolding sheets.deep deep
-  deep_laid zero r c = refl
-  deep_laid (suc n) r c = go (inside s r c) refl (fun_ext (λ i. fun_ext (λ j. deep_laid n i j)))
-    where
-      go : (b : Bool) → inside s r c ≡ b → (λ i j. sheets.deep n s i j) ≡ laid s (deep (sheet_language s) n)
-          → cell_shows (λ i j. sheets.deep n s i j) (cond b (s.cells r c) None) ≡ cond b (worked s (deep (sheet_language s) n) (r * s.cols + c)) Empty
-      go true e ih = ap (λ (f : ℕ → ℕ → Value). cell_shows f (s.cells r c)) ih ∙ ap (cell_shows (laid s (deep (sheet_language s) n))) (sym (nth_at r c e ∙ cond-true (inside s r c) (s.cells r c) None e))
-      go false e ih = refl
-
-  pub shown_laid : (r c : ℕ) → sheets.shown s r c ≡ laid s (shown (sheet_language s)) r c
-  unfolding sheets.shown shown
-  shown_laid r c = deep_laid (suc (s.rows * s.cols)) r c
-
-  -- what cell k shows
-  pub nth_shown_is : (k : ℕ) → k < count s → shown (sheet_language s) k ≡ nth_shown s k
-  nth_shown_is k l =
-      let some = some_cols s.rows s.cols k l in
-      let r = lt-ltb (k / s.cols) s.rows (div_below k s.cols s.rows some l) in
-      let c = lt-ltb (k % s.cols) s.cols (mod_below k s.cols some) in
-      sym (shown_laid (k / s.cols) (k % s.cols) ∙ rw (r, c, div-add-mod' k s.cols))

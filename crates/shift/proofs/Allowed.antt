@@ -7,8 +7,8 @@ use Rattle.recalc.specs.declared.size.Size.{Size}
 use Rattle.recalc.specs.declared.refusal.Refusal.{Refusal}
 use Rattle.recalc.specs.Layout.{sheet_len, size_in, checked, fitting}
 use Rattle.recalc.specs.Showing.{unless_refused}
-use Rattle.recalc.specs.Fitting.{Fits, fits, is_fitting}
-use Rattle.recalc.specs.NumberedLemmas.{checked_size}
+use Rattle.recalc.proofs.Fitting.{Fits, fits, is_fitting}
+use Rattle.recalc.proofs.Numbered.{checked_size}
 use Rattle.shift.specs.declared.shift.Axis.{Axis}
 use Rattle.shift.specs.declared.shift.Axis.TheVariants.{Row, Column}
 use Rattle.shift.specs.declared.shift.Change.{Change}

@@ -6,7 +6,7 @@ use Rattle.std.proofs.lemmas.List.{append_assoc, append-nil, take_at, drop-drop,
 use Rattle.std.proofs.lemmas.Slice.{drop-append-drop}
 use Rattle.recalc.specs.declared.size.Size.{Size}
 use Rattle.recalc.specs.Entries.{entry, entries_from}
-use Rattle.recalc.specs.EntriesLemmas.{entries_length, same_entries, entries_split, entries_push, entries_again}
+use Rattle.recalc.proofs.Entries.{entries_length, same_entries, entries_split, entries_push, entries_again}
 use Rattle.shift.specs.declared.shift.Change.TheVariants.{Insert}
 use Rattle.shift.specs.declared.shift.Shift.{Shift}
 use Rattle.shift.specs.Entries.{size_after, cells_of, coming, Shiftable, origin, first_entry, origin_behind, entry_or_zeros, Within, placed, shifted_entries}

@@ -12,9 +12,10 @@ use Rattle.recalc.specs.declared.size.Size.{Size}
 use Rattle.recalc.specs.Layout.{header_len, sheet_len, cell_numbers, cols_in, size_in, is_malformed, checked}
 use Rattle.recalc.specs.Sheets.{inside, formula_in, sheet_in, Same}
 use Rattle.recalc.specs.Entries.{entry, entries_from}
-use Rattle.recalc.specs.EntriesLemmas.{same_entries, entries_length, entry_at}
+use Rattle.recalc.proofs.Entries.{same_entries, entries_length, entry_at}
 use Rattle.recalc.proofs.Malformed.{none_malformed, each_formed}
-use Rattle.recalc.specs.NumberedLemmas.{inside_is, checked_formed, is_checked}
+use Rattle.recalc.specs.SheetLaws.{inside_is}
+use Rattle.recalc.proofs.Numbered.{checked_formed, is_checked}
 use Rattle.shift.specs.declared.shift.Axis.{Axis}
 use Rattle.shift.specs.declared.shift.Axis.TheVariants.{Row, Column}
 use Rattle.shift.specs.declared.shift.Change.{Change}

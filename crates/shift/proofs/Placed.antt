@@ -3,7 +3,7 @@ use Rattle.std.proofs.Common.{◌≡◌, ℕ, suc, ◌+◌, ◌-◌, ◌*◌, �
 use lib.ListN.{length-replicate}
 use Rattle.std.proofs.lemmas.List.{append_assoc, drop_at, take-take, take-append-le, take-append-drop, length-take-le}
 use Rattle.recalc.specs.Entries.{entry, entries_from}
-use Rattle.recalc.specs.EntriesLemmas.{part_front, entry_behind, entries_length, FilledTo, filled_more}
+use Rattle.recalc.proofs.Entries.{part_front, entry_behind, entries_length, FilledTo, filled_more}
 use Rattle.shift.specs.declared.shift.Change.TheVariants.{Insert, Delete}
 use Rattle.shift.specs.Entries.{Within, entry_or_zeros, placed}
 use Rattle.shift.proofs.Origins.{Comes}

@@ -9,7 +9,7 @@ use Rattle.recalc.specs.declared.size.Size.{Size}
 use Rattle.recalc.specs.Sheets.{Sheet, shown}
 use Rattle.recalc.specs.Entries.{entry, entries_from}
 use Rattle.recalc.specs.Showing.{nth_shown, sheet_values, ShownIn}
-use Rattle.recalc.specs.EntriesLemmas.{same_entries}
+use Rattle.recalc.proofs.Entries.{same_entries}
 use Rattle.recalc.proofs.Rows.{values_length, values_entries, value_entry}
 use Rattle.shift.specs.declared.shift.Axis.{Axis}
 use Rattle.shift.specs.declared.shift.Axis.TheVariants.{Row, Column}

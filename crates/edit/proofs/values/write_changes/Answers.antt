@@ -2,7 +2,7 @@ use Rattle.std.proofs.Common.{◌≡◌, ℕ, ◌*◌, List, ◌++◌, length, d
 use Rattle.formula.specs.declared.token.CellRef.{CellRef}
 use Rattle.evaluate.specs.Values.{value_numbers}
 use Rattle.recalc.specs.Change.{shows}
-use Rattle.recalc.specs.EntriesLemmas.{FilledTo, filled_none}
+use Rattle.recalc.proofs.Entries.{FilledTo, filled_none}
 use Rattle.recalc.proofs.Rows.{values_entries}
 use Rattle.edit.specs.declared.changes.Changes.{Changes}
 use Rattle.edit.specs.Places.{places_from}

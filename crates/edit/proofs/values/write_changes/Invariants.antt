@@ -1,6 +1,6 @@
 use Rattle.std.proofs.Common.{◌≡◌, vec_items}
 use Rattle.evaluate.specs.Values.{value_numbers}
-use Rattle.recalc.specs.EntriesLemmas.{FilledTo}
+use Rattle.recalc.proofs.Entries.{FilledTo}
 use Rattle.edit.specs.Places.{places_from}
 use Rattle.recalc.specs.Showing.{table_shows}
 use Rattle.edit.specs.Values.{table_differs}

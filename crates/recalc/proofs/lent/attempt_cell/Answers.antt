@@ -3,7 +3,7 @@ use Rattle.recalc.specs.declared.size.Size.{Size}
 use Rattle.recalc.specs.declared.formulas.Attempt.TheVariants.{Needs}
 use Rattle.recalc.specs.Sheets.{sheet_in}
 use Rattle.recalc.specs.Numbered.{as_attempt}
-use Rattle.recalc.specs.NumberedLemmas.{wanted_small}
+use Rattle.recalc.proofs.Numbered.{wanted_small}
 use Rattle.recalc.proofs.lent.attempt_cell.Goals as goal
 
 pub overflow_mul-result : goal.overflow_mul-result

@@ -4,7 +4,7 @@ use Rattle.formula.specs.Cells.{meant}
 use Rattle.recalc.specs.declared.size.Size.{Size}
 use Rattle.recalc.specs.Sheets.{formula_in}
 use Rattle.recalc.specs.Numbered.{laid_known, tried_cell}
-use Rattle.recalc.specs.NumberedLemmas.{nth_is, formula_tried}
+use Rattle.recalc.proofs.Numbered.{nth_is, formula_tried}
 use Rattle.recalc.proofs.lent.try_cell.Goals as goal
 
 pub returns : goal.returns

@@ -1,5 +1,5 @@
 use Rattle.std.proofs.Common.{refl}
-use Rattle.recalc.specs.NumberedLemmas.{few_cells}
+use Rattle.recalc.proofs.Numbered.{few_cells}
 use Rattle.recalc.proofs.show.count_cells.Goals as goal
 
 pub returns : goal.returns

@@ -3,7 +3,7 @@ use borrow.Rule.Slice.PartMut.{put_mid}
 use Rattle.std.proofs.lemmas.List.{drop-drop}
 use Rattle.evaluate.specs.Values.{value_numbers}
 use Rattle.recalc.specs.Showing.{table_shows}
-use Rattle.recalc.specs.EntriesLemmas.{FilledTo, filled_none, filled_more}
+use Rattle.recalc.proofs.Entries.{FilledTo, filled_none, filled_more}
 use Rattle.recalc.proofs.Rows.{two_numbers, values_entries, table_values}
 use Rattle.recalc.proofs.show.write_values.Goals as goal
 

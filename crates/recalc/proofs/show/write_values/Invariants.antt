@@ -1,6 +1,6 @@
 use Rattle.evaluate.specs.Values.{value_numbers}
 use Rattle.recalc.specs.Showing.{table_shows}
-use Rattle.recalc.specs.EntriesLemmas.{FilledTo}
+use Rattle.recalc.proofs.Entries.{FilledTo}
 use Rattle.recalc.proofs.show.write_values.Given as goal
 
 -- the values of the cells before k are written

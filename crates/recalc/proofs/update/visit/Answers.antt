@@ -1,8 +1,7 @@
 use Rattle.std.proofs.Common.{sym, ◌∙◌}
 use Rattle.std.proofs.lemmas.List.{get_or-set_same}
 use Rattle.recalc.specs.declared.formulas.Progress.TheVariants.{Waiting, Open}
-use Rattle.recalc.proofs.Table.{later_set}
-use Rattle.recalc.proofs.Table.{open_not}
+use Rattle.recalc.proofs.Table.{later_set, open_not}
 use Rattle.recalc.proofs.Rooms.{opened}
 use Rattle.recalc.proofs.update.visit.Goals as goal
 

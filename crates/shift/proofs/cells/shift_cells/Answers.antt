@@ -3,7 +3,7 @@ use borrow.Rule.Slice.PartMut.{put_mid}
 use Rattle.std.proofs.lemmas.List.{drop-drop, length-take-le}
 use Rattle.formula.specs.Layout.{cell_len}
 use Rattle.recalc.specs.Entries.{entry}
-use Rattle.recalc.specs.EntriesLemmas.{entry_behind, FilledTo, filled_none, filled_more, entries_length}
+use Rattle.recalc.proofs.Entries.{entry_behind, FilledTo, filled_none, filled_more, entries_length}
 use Rattle.shift.specs.Memory.{shifted_cell}
 use Rattle.shift.proofs.OneCell.{cell_length}
 use Rattle.shift.proofs.cells.shift_cells.Goals as goal

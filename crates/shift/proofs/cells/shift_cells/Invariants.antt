@@ -1,6 +1,6 @@
 use Rattle.formula.specs.Layout.{cell_len}
 use Rattle.recalc.specs.Entries.{entry}
-use Rattle.recalc.specs.EntriesLemmas.{FilledTo}
+use Rattle.recalc.proofs.Entries.{FilledTo}
 use Rattle.shift.specs.Memory.{shifted_cell}
 use Rattle.shift.proofs.cells.shift_cells.Given as goal
 

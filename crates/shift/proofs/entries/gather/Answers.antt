@@ -1,5 +1,5 @@
 use Rattle.std.proofs.Common.{◌≡◌, suc, ◌+◌, ◌-◌, ◌*◌, ◌<◌, ◌≤◌, ◌++◌, length, take, drop, sym, ap, ◌∙◌, subst, mul-le-mul_left, mul-suc, arith}
-use Rattle.recalc.specs.EntriesLemmas.{FilledTo, filled_none}
+use Rattle.recalc.proofs.Entries.{FilledTo, filled_none}
 use Rattle.shift.specs.Entries.{cells_of, size_after, first_entry, origin_behind, entry_or_zeros, Within}
 use Rattle.shift.proofs.Origins.{Comes, behinds, left_deleted}
 use Rattle.shift.proofs.Placed.{gathered_more, entry_long}

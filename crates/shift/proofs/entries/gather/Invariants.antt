@@ -1,4 +1,4 @@
-use Rattle.recalc.specs.EntriesLemmas.{FilledTo}
+use Rattle.recalc.proofs.Entries.{FilledTo}
 use Rattle.shift.specs.Entries.{origin_behind, entry_or_zeros}
 use Rattle.shift.proofs.entries.gather.Given as goal
 

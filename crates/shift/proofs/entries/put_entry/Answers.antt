@@ -3,7 +3,7 @@ use borrow.Rule.Slice.PartMut.{put_mid}
 use lib.Seq.{paste}
 use Rattle.std.proofs.lemmas.List.{append_assoc, drop-drop, length-take-le}
 use Rattle.recalc.specs.Entries.{entry}
-use Rattle.recalc.specs.EntriesLemmas.{around_entry}
+use Rattle.recalc.proofs.Entries.{around_entry}
 use Rattle.shift.specs.Entries.{entry_or_zeros}
 use Rattle.shift.proofs.entries.put_entry.Goals as goal
 

@@ -1,6 +1,6 @@
 use Rattle.std.proofs.Common.{sym, ◌∙◌, arith}
 use Rattle.recalc.specs.declared.size.Size.{Size}
-use Rattle.recalc.specs.NumberedLemmas.{few_cells}
+use Rattle.recalc.proofs.Numbered.{few_cells}
 use Rattle.show.proofs.answer.see_sheet.Goals as goal
 
 pub add_shown-requires : goal.add_shown-requires

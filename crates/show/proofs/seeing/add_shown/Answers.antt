@@ -5,7 +5,7 @@ use Rattle.recalc.specs.Layout.{checked}
 use Rattle.recalc.specs.Sheets.{sheet_in}
 use Rattle.recalc.specs.Showing.{nth_shown, sheet_values}
 use Rattle.recalc.proofs.Rows.{values_length}
-use Rattle.recalc.specs.NumberedLemmas.{checked_size}
+use Rattle.recalc.proofs.Numbered.{checked_size}
 use Rattle.show.proofs.seeing.add_shown.Goals as goal
 
 -- the part that is shown is what the sheet shows

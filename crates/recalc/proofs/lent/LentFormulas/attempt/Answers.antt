@@ -1,7 +1,7 @@
 use Rattle.std.proofs.Common.{◌≡◌}
 use Rattle.recalc.specs.declared.size.Size.{Size}
 use Rattle.recalc.specs.Layout.{size_in}
-use Rattle.recalc.specs.NumberedLemmas.{lent_answers}
+use Rattle.recalc.proofs.Numbered.{lent_answers}
 use Rattle.recalc.proofs.lent.LentFormulas.attempt.Goals as goal
 
 pub returns : goal.returns

@@ -1,9 +1,9 @@
 -- Cells by their numbers: what an attempt at one of them answers. Assumes nothing.
-use Rattle.std.specs.Prelude.{◌≡◌, ℕ, zero, suc, ◌+◌, ◌*◌, ◌/◌, ◌%◌, ◌<◌, ◌≤◌, Bool, true, false, cond, List, length, is_ok, Some, None, Ok, Err, Option, Result, nat_le, nat_lt, refl}
+use Rattle.std.specs.Prelude.{◌≡◌, ℕ, zero, suc, ◌+◌, ◌*◌, ◌/◌, ◌%◌, ◌<◌, ◌≤◌, Bool, true, false, cond, List, length, is_ok, Some, None, Ok, Err, Option, Result, nat_le, refl}
 use Rattle.std.proofs.Common.{sym, ap, subst, ◌∙◌, mul-zero, arith}
 use Rattle.std.specs.Option.{unwrap_or, option_map}
-use Rattle.std.proofs.lemmas.Bool.{cond-true, and_parts, ltb-true, leb-true, lt-ltb, le-leb}
-use Rattle.std.proofs.lemmas.Nat.{mul-le, mul-add-lt, div-add-mod', div_below, mod_below}
+use Rattle.std.proofs.lemmas.Bool.{cond-true, leb-true, lt-ltb, le-leb}
+use Rattle.std.proofs.lemmas.Nat.{mul-le, div-add-mod', div_below, mod_below}
 use Rattle.formula.specs.declared.token.CellRef.{CellRef}
 use Rattle.formula.specs.Formula.{Formula}
 use Rattle.formula.specs.Cells.{content}
@@ -21,15 +21,9 @@ use Rattle.recalc.specs.Layout.{rows_in, cols_in, sheet_len, cell_numbers, first
 use Rattle.recalc.specs.Table.{at, Right, Has, Answers, NeedsWithin}
 use Rattle.recalc.specs.Sheets.{Sheet, inside, formula_in, sheet_in}
 use Rattle.recalc.specs.Numbered.{count, number_of, nth_cell, laid, worked, LooksAt, known_of, laid_known, tried, tried_cell, as_attempt, readable}
-use Rattle.recalc.specs.Fitting.{within_is, is_within}
-use Rattle.recalc.specs.Tries.{RightAt, made, wanted}
-
--- inside, in terms of numbers
-pub inside_is : (s : Sheet) (r c : ℕ) → inside s r c ≡ true → (r < s.rows) × (c < s.cols)
-inside_is s r c e = let t = and_parts (nat_lt r s.rows) (nat_lt c s.cols) e in (ltb-true r s.rows t.0, ltb-true c s.cols t.1)
-
-pub number_inside : (s : Sheet) (q : CellRef) → inside s q.row q.col ≡ true → number_of s q < count s
-number_inside s q e = let l = inside_is s q.row q.col e in omega (arith, mul-add-lt q.row s.cols q.col s.rows l.0 l.1)
+use Rattle.recalc.specs.SheetLaws.{number_inside}
+use Rattle.recalc.proofs.Fitting.{within_is, is_within}
+use Rattle.recalc.proofs.Tries.{RightAt, made, wanted}
 
 known_is : (p : Progress) (v : Value) → known_of p ≡ Some v → p ≡ Known v
 known_is Waiting v e = absurd (let z : ◌≡◌ {A = ℕ} 0 1 = cc in omega arith)
