@@ -1,5 +1,5 @@
 // A small sheet of values to work from.
-ghost use Rattle.std.specs.Prelude.{◌+◌, ◌*◌, ◌&&◌, ltb, if◌then◌else◌, Some, None, nat_lt, slice_index_or};
+ghost use Rattle.std.specs.Prelude.{◌+◌, ◌*◌, ◌&&◌, if◌then◌else◌, Some, None, nat_lt, slice_index_or};
 ghost use Rattle.evaluate.specs.declared.value.Value.TheVariants.{Empty};
 
 use evaluate::{CellError, Cells, Value};
@@ -15,7 +15,7 @@ impl Cells for Grid {
 
     ghost width = { λ _. 3 };
 
-    ghost shown = { λ g r c. (if ltb r 3 && nat_lt c 3 then slice_index_or g.values (3 * r + c) None else Some Empty) };
+    ghost shown = { λ g r c. (if nat_lt r 3 && nat_lt c 3 then slice_index_or g.values (3 * r + c) None else Some Empty) };
 
     fn rows(&self) -> u64 {
         3
