@@ -1,5 +1,5 @@
 -- A row of values. Assumes nothing.
-use Rattle.std.proofs.Common.{◌≡◌, ℕ, zero, suc, ◌+◌, ◌*◌, ◌<◌, ◌≤◌, List, [], ◌∷◌, ◌++◌, length, drop, sym, refl, ap, ◌∙◌, arith}
+use Rattle.std.proofs.Common.{◌≡◌, ℕ, zero, suc, ◌+◌, ◌*◌, ◌<◌, ◌≤◌, List, [], ◌∷◌, ◌++◌, length, drop, sym, refl, ap, ◌∙◌, subst, arith}
 use Rattle.evaluate.specs.declared.value.Value.{Value}
 use Rattle.evaluate.specs.declared.value.Value.TheVariants.{Empty, Number, Error}
 use Rattle.evaluate.specs.Values.{value_numbers}
@@ -11,7 +11,7 @@ use Rattle.recalc.specs.Sheets.{Sheet}
 use Rattle.recalc.specs.Numbered.{count, sheet_language}
 use Rattle.recalc.specs.Entries.{entry, entries_from}
 use Rattle.recalc.specs.Showing.{nth_shown, values_from, sheet_values, value_known, table_numbers, table_shows}
-use Rattle.recalc.proofs.Entries.{same_entries, entries_length, entry_at}
+use Rattle.recalc.proofs.Entries.{same_entries, entries_again, entries_length, entry_at, FilledTo}
 use Rattle.recalc.proofs.Laid.{nth_shown_is}
 
 -- a value is two numbers
@@ -46,14 +46,18 @@ value_entry f n k rest l =
     ∙ entry_at (λ i. value_numbers (f i)) 2 n (λ i h. two_numbers (f i)) 0 n k rest (omega arith) l
     ∙ ap (λ i. value_numbers (f i)) zero_left
 
+-- a row that is filled with the numbers of n values
+pub filled_values : (f : ℕ → Value) (xs now : List ℕ) (k n : ℕ) → k ≡ n → FilledTo (λ i. value_numbers (f i)) 2 xs k now → now ≡ values_from f 0 n ++ drop (2 * n) xs
+filled_values f xs now k n same filled =
+    subst (λ m. FilledTo (λ i. value_numbers (f i)) 2 xs m now) same filled ∙ ap (λ ys. ys ++ drop (2 * n) xs) (sym (values_entries f 0 n))
+
 -- values counted from the second
 values_again : (f : ℕ → Value) (n : ℕ) → values_from f 1 n ≡ values_from (λ i. f (suc i)) 0 n
-unfolding values_from
-values_again f n = go 0 n
-  where
-    go : (k n : ℕ) → values_from f (suc k) n ≡ values_from (λ i. f (suc i)) k n
-    go k zero = refl
-    go k (suc n) = ap (λ ys. value_numbers (f (suc k)) ++ ys) (go (suc k) n)
+values_again f n =
+    values_entries f 1 n
+    ∙ entries_again (λ i. value_numbers (f i)) 1 0 n
+    ∙ same_entries (λ i. value_numbers (f (1 + i))) (λ i. value_numbers (f (suc i))) 0 n (λ i a b. let one : 1 + i ≡ suc i = omega arith in ap (λ m. value_numbers (f m)) one)
+    ∙ sym (values_entries (λ i. f (suc i)) 0 n)
 
 -- the numbers of a table are those of the values that it shows
 pub table_values : (t : List Progress) → table_numbers t ≡ values_from (table_shows t) 0 (length t)

@@ -1,9 +1,9 @@
-use Rattle.std.proofs.Common.{◌≡◌, ℕ, ◌*◌, List, ◌++◌, length, drop, vec_items, sym, refl, ap, ◌∙◌, subst, arith}
+use Rattle.std.proofs.Common.{◌≡◌, List, length, vec_items, sym, refl, ap, ◌∙◌, arith}
 use Rattle.formula.specs.declared.token.CellRef.{CellRef}
 use Rattle.evaluate.specs.Values.{value_numbers}
 use Rattle.recalc.specs.Change.{shows}
-use Rattle.recalc.proofs.Entries.{FilledTo, filled_none}
-use Rattle.recalc.proofs.Rows.{values_entries}
+use Rattle.recalc.proofs.Entries.{filled_none}
+use Rattle.recalc.proofs.Rows.{filled_values}
 use Rattle.edit.specs.declared.changes.Changes.{Changes}
 use Rattle.edit.specs.Places.{places_from}
 use Rattle.edit.specs.Changes.{differs}
@@ -55,9 +55,5 @@ loop-k-preserved c =
 pub returns-clause-values : goal.returns-clause-values
 returns-clause-values c =
     let t = c.args.table.now in
-    let n = length t in
-    let xs = c.args.values.now in
-    let f : ℕ → List ℕ = λ i. value_numbers (table_shows t i) in
-    let e : c.loop-k.k ≡ n = omega arith in
-    let filled : FilledTo f 2 xs n c.loop-k.values = subst (λ i. FilledTo f 2 xs i c.loop-k.values) e c.loop-k.invariant.0 in
-    filled ∙ ap (λ ys. ys ++ drop (2 * n) xs) (sym (values_entries (table_shows t) 0 n))
+    let e : c.loop-k.k ≡ length t = omega arith in
+    filled_values (table_shows t) c.args.values.now c.loop-k.values c.loop-k.k (length t) e c.loop-k.invariant.0

@@ -4,7 +4,7 @@ use Rattle.std.proofs.lemmas.List.{drop-drop}
 use Rattle.evaluate.specs.Values.{value_numbers}
 use Rattle.recalc.specs.Showing.{table_shows}
 use Rattle.recalc.proofs.Entries.{FilledTo, filled_none, filled_more}
-use Rattle.recalc.proofs.Rows.{two_numbers, values_entries, table_values}
+use Rattle.recalc.proofs.Rows.{two_numbers, filled_values, table_values}
 use Rattle.recalc.proofs.show.write_values.Goals as goal
 
 pub loop-k-init : goal.loop-k-init
@@ -26,8 +26,7 @@ loop-k-preserved c =
 
 pub returns : goal.returns
 returns c =
-    let e : c.loop-k.k ≡ length c.args.table.now = omega arith in
     let t = c.args.table.now in
-    let f : ℕ → List ℕ = λ i. value_numbers (table_shows t i) in
-    let filled : FilledTo f 2 c.args.out.now (length t) c.loop-k.out = subst (λ i. FilledTo f 2 c.args.out.now i c.loop-k.out) e c.loop-k.invariant in
-    filled ∙ ap (λ ys. ys ++ drop (2 * length t) c.args.out.now) (sym (table_values t ∙ values_entries (table_shows t) 0 (length t)))
+    let e : c.loop-k.k ≡ length t = omega arith in
+    filled_values (table_shows t) c.args.out.now c.loop-k.out c.loop-k.k (length t) e c.loop-k.invariant
+    ∙ ap (λ ys. ys ++ drop (2 * length t) c.args.out.now) (sym (table_values t))
