@@ -132,3 +132,8 @@ operand_there n xs h = go (after n xs) refl (after_some n xs h)
         let s = skipped xs n ys a in
         let same : formula_at 0 (reads ys) ≡ formula_at n (reads xs) = ap (formula_at 0) s.reads_rest ∙ at_drop n (reads xs) in
         token_there ys (decoded ys) refl (rw same h)
+
+-- before what is left after one formula stands that formula
+pub first_there : (more : List Read) (ys : List ℕ) → Some ys ≡ rest_at 0 more → is_some (formula_at 0 more) ≡ true
+first_there [] ys e = absurd (grind arith)
+first_there (x ∷ more) ys e = refl
