@@ -2,10 +2,9 @@
 ghost use Rattle.std.specs.Prelude.{◌≡◌, true, is_some};
 ghost use Rattle.formula.specs.Reading.{reads, formula_at};
 
-// The formula that stands in a row after `nth` others.
+// The formula with which a row begins; what stands after it is not looked at.
 #[derive(Clone, Copy)]
 pub struct Expression<'a> {
     pub(crate) tokens: &'a [u64],
-    pub(crate) nth: usize,
-    ghost there: { is_some (formula_at nth (reads tokens.now)) ≡ true },
+    ghost there: { is_some (formula_at 0 (reads tokens.now)) ≡ true },
 }
