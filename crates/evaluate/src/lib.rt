@@ -7,6 +7,7 @@ mod evaluating;
 mod fold;
 mod laws;
 mod limits;
+mod reader;
 mod stop;
 mod tally;
 mod trail;
