@@ -11,7 +11,7 @@ use Rattle.evaluate.specs.declared.value.CellError.TheVariants.{DivideByZero, Ou
 use Rattle.evaluate.specs.declared.value.Value.{Value}
 use Rattle.evaluate.specs.declared.stop.Stop.{Stop}
 use Rattle.evaluate.specs.declared.stop.Stop.TheVariants as stop
-use Rattle.evaluate.specs.declared.tally.Tally.{Tally}
+use Rattle.evaluate.specs.Tallies.{Tally}
 use Rattle.evaluate.specs.Traces.{Trace, ends, look, then, each}
 use Rattle.evaluate.specs.Evaluation.{fits, applied, none_yet, counted, gathered_row, gathered, finished, trace}
 

@@ -6,11 +6,7 @@ use crate::formulas::Progress;
 use evaluate::{Cells, Value};
 
 impl<'a> Cells for Filled<'a> {
-    ghost height = { λ s. s.rows };
-
-    ghost width = { λ s. s.cols };
-
-    ghost shown = { in_table };
+    ghost sheet = { λ s. record { height = s.rows; width = s.cols; shown = in_table s } };
 
     fn rows(&self) -> u64 {
         self.rows

@@ -1,16 +1,16 @@
 use Rattle.std.proofs.Common.{inl, inr, arith}
 use Rattle.evaluate.proofs.Trails.{noted_inside, noted_outside}
-use Rattle.evaluate.proofs.work.note_inside.Goals as goal
-use Rattle.evaluate.proofs.work.note_inside.Goals.{else-place-rows-via-then-place-rows+else-place-cols, else-place-rows-via-else-place-rows}
+use Rattle.evaluate.proofs.reader.Reader.note.Goals as goal
+use Rattle.evaluate.proofs.reader.Reader.note.Goals.{else-place-rows-via-then-place-rows+else-place-cols, else-place-rows-via-else-place-rows}
 
-pub returns-then-place-cols : goal.returns-then-place-cols
-returns-then-place-cols g c =
+pub returns-then-place-cols-clause-noted : goal.returns-then-place-cols-clause-noted
+returns-then-place-cols-clause-noted g c =
     let high = c.rows.ensures.is in
     let wide = c.cols.ensures.is in
     noted_inside _ _ c.args.place _ _ (omega arith) (omega arith) c.note.ensures
 
-pub returns-else-place-rows : goal.returns-else-place-rows
-returns-else-place-rows g c =
+pub returns-else-place-rows-clause-noted : goal.returns-else-place-rows-clause-noted
+returns-else-place-rows-clause-noted g c =
     let high = c.rows.ensures.is in
     elim c.else-place-rows.branch [
       | else-place-rows-via-then-place-rows+else-place-cols w ↦ let wide = w.cols.ensures.is in noted_outside _ _ c.args.place _ (inr (omega arith))
