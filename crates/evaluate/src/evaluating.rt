@@ -21,10 +21,7 @@ pub fn evaluate<C: Cells>(tokens: &[u64], cells: &C) -> Option<Result<u64, Stop>
     let trail = Untold;
     let mut reader = Reader { cells, trail };
     let end = reader.work(expression);
-    let Reader {
-        cells: _,
-        trail: Untold,
-    } = reader;
+    let Untold = reader.into_trail();
     Some(end)
 }
 
@@ -39,19 +36,16 @@ pub fn looks<C: Cells>(
     let expression = Expression::read(tokens).ok_or(Unlisted::Malformed)?;
     let before = places.len();
     let empty = Vec::new(*places.allocator());
+    // The list is taken out while it grows: held by `&mut`, it would have to be said at each call that it is the same one.
     let trail = Listed {
         places: replace(places, empty),
         outcome: Ok(()),
     };
     let mut reader = Reader { cells, trail };
     let end = reader.work(expression);
-    let Reader { cells: _, trail } = reader;
-    let Listed {
-        places: listed,
-        outcome,
-    } = trail;
-    *places = listed;
-    if let Err(error) = outcome {
+    let listed = reader.into_trail();
+    *places = listed.places;
+    if let Err(error) = listed.outcome {
         places.truncate(before);
         return Err(error.into());
     }

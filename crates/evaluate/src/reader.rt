@@ -47,6 +47,13 @@ impl<'a, C: Cells, T: Trail> Reader<'a, C, T> {
         number_in(place, self.cells.at(place.row, place.col))
     }
 
+    pub fn into_trail(self) -> T
+        ensures { result ≡ self.entry.trail }
+    {
+        let Reader { cells: _, trail } = self;
+        trail
+    }
+
     // An empty cell counts as 0.
     pub fn cell(&mut self, place: Option<CellRef>) -> Result<u64, Stop>
         ensures { Reads C.sheet T.log (λ f. trace f (formula.cell place)) result self.old self.new }
