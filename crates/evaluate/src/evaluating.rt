@@ -1,7 +1,8 @@
 // What a formula comes to, and the places that it looks at.
-ghost use Rattle.std.specs.Prelude.{◌≡◌, vec_capacity};
+ghost use Rattle.std.specs.Prelude.{◌≡◌, Some, vec_capacity};
 ghost use Rattle.std.specs.Option.{option_map};
 ghost use Rattle.formula.specs.Reading.{spelled};
+ghost use Rattle.formula.specs.Expressions.{formula_of};
 ghost use Rattle.evaluate.specs.Evaluation.{attempt};
 ghost use Rattle.evaluate.specs.Looking.{Lists};
 
@@ -13,16 +14,22 @@ use crate::unlisted::Unlisted;
 use formula::{CellRef, Expression};
 use std::mem::replace;
 
-// What a formula comes to from what the cells show; None where the row is no formula.
-pub fn evaluate<C: Cells>(tokens: &[u64], cells: &C) -> Option<Result<u64, Stop>>
-    ensures { result ≡ option_map (attempt (C.sheet cells.now).shown) (spelled tokens.now) }
+// What an expression comes to from what the cells show.
+pub fn evaluate_expression<C: Cells>(expression: Expression<'_>, cells: &C) -> Result<u64, Stop>
+    ensures { Some result ≡ option_map (attempt (C.sheet cells.now).shown) (formula_of expression.entry) }
 {
-    let expression = Expression::read(tokens)?;
     let trail = Untold;
     let mut reader = Reader { cells, trail };
     let end = reader.work(expression);
     let Untold = reader.into_trail();
-    Some(end)
+    end
+}
+
+// The same of the formula that a row is; None where the row is no formula.
+pub fn evaluate<C: Cells>(tokens: &[u64], cells: &C) -> Option<Result<u64, Stop>>
+    ensures { result ≡ option_map (attempt (C.sheet cells.now).shown) (spelled tokens.now) }
+{
+    Some(evaluate_expression(Expression::read(tokens)?, cells))
 }
 
 // The same, and the places of the sheet that the formula looks at are added to the list, in order. A refusal leaves the list as it was, and where the list has room it does not come.
