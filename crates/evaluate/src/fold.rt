@@ -22,16 +22,15 @@ fn clip(first: u64, count: u64, lines: u64) -> u64
 
 impl<'a, C: Cells, T: Trail> Reader<'a, C, T> {
     // A tally with the cells of one row.
-    fn take_row(&mut self, row: u64, from: u64, to: u64, tally: Tally) -> Result<Tally, Stop>
+    fn take_row(&mut self, row: u64, from: u64, to: u64, mut tally: Tally) -> Result<Tally, Stop>
         requires { tally.count + (to - from) ≤ max_cells }
         ensures reads { Reads C.sheet T.log (λ f. gathered_row f from (to - from) row tally) result self.old self.new }
         ensures few { IfOk result (λ t. t.count ≤ tally.count + (to - from)) }
     {
-        let mut sum = tally;
         for col in from..to {
-            sum = sum.add(self.look(CellRef { row, col })?);
+            tally = tally.add(self.look(CellRef { row, col })?);
         }
-        Ok(sum)
+        Ok(tally)
     }
 
     // Only the cells within the sheet are looked at, however large the range.

@@ -8,7 +8,7 @@ use Rattle.evaluate.proofs.reader.Reader.take_row.Goals as goal
 
 pub returns-in_err-look-clause-reads : goal.returns-in_err-look-clause-reads
 returns-in_err-look-clause-reads g c =
-    let u = c.loop-col.sum in
+    let u = c.loop-col.tally in
     let p = the_ref c.args.row c.loop-col.col in
     let x = c.in_err-look.field-0.0 in
     reads_same _ (passed_on _ x c.from_residual.ensures.1)
@@ -17,17 +17,17 @@ returns-in_err-look-clause-reads g c =
 
 pub loop-col-preserved : goal.loop-col-preserved
 loop-col-preserved g c =
-    let u = c.loop-col.sum in
+    let u = c.loop-col.tally in
     let p = the_ref c.args.row c.loop-col.col in
     let n = c.in_ok-look.field-0 in (
       λ r o rest.
           c.loop-col.invariant.0 r o
           (reads_went (λ f j t. look f (the_ref c.args.row j) (counted t)) c.loop-col.col c.args.to u (counted u n) r _ c.loop-col-test.true
-          (reads_on p (counted u) (Ok n) c.in_ok-look.ensures) (rw c.add-sum.ensures at rest)),
-      omega (arith, ap (λ (t : Tally). t.count) c.add-sum.ensures, counted_count u n),
+          (reads_on p (counted u) (Ok n) c.in_ok-look.ensures) (rw c.add-tally.ensures at rest)),
+      omega (arith, ap (λ (t : Tally). t.count) c.add-tally.ensures, counted_count u n),
     )
 
 pub returns-clause-reads : goal.returns-clause-reads
 returns-clause-reads g c =
     c.loop-col.invariant.0 _ _
-    (reads_ended (λ f j t. look f (the_ref c.args.row j) (counted t)) c.loop-col.col c.args.to c.loop-col.sum _ c.loop-col-test.false)
+    (reads_ended (λ f j t. look f (the_ref c.args.row j) (counted t)) c.loop-col.col c.args.to c.loop-col.tally _ c.loop-col-test.false)

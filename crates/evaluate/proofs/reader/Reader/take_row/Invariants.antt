@@ -10,6 +10,6 @@ use Rattle.evaluate.proofs.reader.Reader.take_row.Given as goal
 abbrev pub invariant-loop-col : goal.invariant-loop-col
 invariant-loop-col g l =
     ((r : Result Tally Stop) (o : Reader _ _)
-    → Reads g.C.Cells.sheet g.T.Trail.log (λ f. gathered_row f l.col (l.to - l.col) l.row l.sum) r l.self o
-    → Reads g.C.Cells.sheet g.T.Trail.log (λ f. gathered_row f l.from (l.to - l.from) l.row l.initial.sum) r l.initial.self o)
-    × (l.sum.count + (l.to - l.col) ≤ l.initial.sum.count + (l.to - l.from))
+    → Reads g.C.Cells.sheet g.T.Trail.log (λ f. gathered_row f l.col (l.to - l.col) l.row l.tally) r l.self o
+    → Reads g.C.Cells.sheet g.T.Trail.log (λ f. gathered_row f l.from (l.to - l.from) l.row l.initial.tally) r l.initial.self o)
+    × (l.tally.count + (l.to - l.col) ≤ l.initial.tally.count + (l.to - l.from))
