@@ -19,7 +19,7 @@ fn value_at(values: &[u64], k: usize) -> Value
     requires { 2 * k + 2 ≤ length values.now }
     ensures { result ≡ value_at values.now k }
 {
-    Value::decode(values[2 * k], values[2 * k + 1]).unwrap_or(Value::Empty)
+    Value::try_from([values[2 * k], values[2 * k + 1]]).unwrap_or(Value::Empty)
 }
 
 // The values of the first cells, as many as `before` has.
@@ -37,7 +37,7 @@ fn put_value(values: &mut [u64], k: usize, value: Value)
     requires { 2 * k + 2 ≤ length values.old }
     ensures { values.new ≡ with_value values.old k value }
 {
-    let numbers = value.encode();
+    let numbers = <[u64; 2]>::from(value);
     values[2 * k..2 * k + 2].copy_from_slice(&numbers);
 }
 

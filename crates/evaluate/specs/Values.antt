@@ -1,5 +1,5 @@
 -- The two numbers of a value in a lent row, and its text. Assumes nothing: these are definitions.
-use Rattle.std.specs.Prelude.{ℕ, List, [], ◌∷◌, Some, None, codes, decimal, Option, slice_index_or}
+use Rattle.std.specs.Prelude.{◌≡◌, ℕ, List, [], ◌∷◌, Some, None, codes, decimal, Option, slice_index, slice_index_or}
 use Rattle.std.specs.Option.{option_map}
 use Rattle.evaluate.specs.declared.value.CellError.{CellError}
 use Rattle.evaluate.specs.declared.value.CellError.TheVariants.{DivideByZero, OutOfRange, Lost, Cycle}
@@ -24,6 +24,11 @@ error_in n = slice_index_or (None ∷ Some DivideByZero ∷ Some OutOfRange ∷ 
 -- what two numbers stand for
 abbrev pub value_in : ℕ → ℕ → Option Value
 value_in k n = slice_index_or (slice_index_or (Some Empty ∷ []) n None ∷ Some (Number n) ∷ option_map Error (error_in n) ∷ []) k None
+
+-- the two numbers of a value, which are read as it again
+pub record StandsFor (v : Value) (ns : List ℕ) : Type 0 where
+  pub is : ns ≡ value_numbers v
+  pub back : value_in (slice_index ns 0) (slice_index ns 1) ≡ Some v
 
 abbrev pub error_text : CellError → List ℕ
 error_text DivideByZero = codes "by-nothing"

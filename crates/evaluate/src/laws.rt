@@ -2,31 +2,23 @@
 ghost use Rattle.evaluate.specs.Laws.{EndsAtFirst, SettledStays, LooksAreEnough, ErrorsSpread, CyclesAreLookedAt, NeverEmpty};
 
 // Work ends at the first place that is not known, or else as it does where all is known.
-pub fn ends_at_first_unknown() -> u8
+pub fn ends_at_first_unknown()
     ensures { EndsAtFirst }
-{
-    0
-}
+{}
 
 // What was settled stays, however much more is known.
-pub fn settled_stays() -> u8
+pub fn settled_stays()
     ensures { SettledStays }
-{
-    0
-}
+{}
 
 // What agrees at the places looked at gives the same.
-pub fn looks_are_enough() -> u8
+pub fn looks_are_enough()
     ensures { LooksAreEnough }
-{
-    0
-}
+{}
 
 // A formula shows an error that it looks at, and the cycle error only if it looks at one; it never shows nothing.
-pub fn errors_spread() -> u8
+pub fn errors_spread()
     ensures errors { ErrorsSpread }
     ensures cycles { CyclesAreLookedAt }
     ensures never { NeverEmpty }
-{
-    0
-}
+{}

@@ -20,4 +20,4 @@ pub use laws::{ends_at_first_unknown, errors_spread, looks_are_enough, settled_s
 pub use limits::{MAX_COLUMNS, MAX_ROWS};
 pub use stop::Stop;
 pub use unlisted::Unlisted;
-pub use value::{CellError, Value};
+pub use value::{CellError, NotAValue, Value};

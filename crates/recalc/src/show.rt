@@ -31,7 +31,7 @@ fn write_values(table: &[Progress], out: &mut [u64])
     ensures { out.new ≡ table_numbers table.now ++ drop (2 * length table.now) out.old }
 {
     for k in 0..table.len() {
-        let numbers = known_value(table[k]).encode();
+        let numbers = <[u64; 2]>::from(known_value(table[k]));
         out[2 * k..2 * k + 2].copy_from_slice(&numbers);
     }
 }

@@ -12,7 +12,7 @@ fn value_at(values: &[u64], index: u64) -> Option<Value>
     if index >= values.len() / 2 {
         return None;
     }
-    Value::decode(values[2 * index], values[2 * index + 1])
+    Value::try_from([values[2 * index], values[2 * index + 1]]).ok()
 }
 
 // No row of values reaches as far as an index that does not fit.

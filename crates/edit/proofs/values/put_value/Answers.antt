@@ -9,6 +9,6 @@ returns c =
     let xs = c.args.values.now in
     let at = 2 * c.args.k in
     let n : at + 2 - at ≡ 2 = omega arith in
-    ap (put_mid at (at + 2 - at) xs) (c.copy_from_slice.ensures.after ∙ c.encode-numbers.ensures.is)
+    ap (put_mid at (at + 2 - at) xs) (c.copy_from_slice.ensures.after ∙ c.from-numbers.ensures.is)
     ∙ ap (λ m. put_mid at m xs (value_numbers c.args.value)) n
     ∙ ap (λ ys. take at xs ++ (value_numbers c.args.value ++ ys)) (drop-drop 2 at xs)

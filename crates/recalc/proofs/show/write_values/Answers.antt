@@ -19,7 +19,7 @@ loop-k-preserved c =
     let n : 2 * k + 2 - 2 * k ≡ 2 = omega arith in
     let e : suc k ≡ k + 1 = omega arith in
     let next = put_mid (2 * k) (2 * k + 2 - 2 * k) xs c.copy_from_slice.new.self in
-    let is : c.copy_from_slice.new.self ≡ f k = c.copy_from_slice.ensures.after ∙ c.encode-numbers.ensures.is ∙ ap value_numbers c.known_value.ensures in
+    let is : c.copy_from_slice.new.self ≡ f k = c.copy_from_slice.ensures.after ∙ c.from-numbers.ensures.is ∙ ap value_numbers c.known_value.ensures in
     subst (λ i. FilledTo f 2 c.args.out.now i next) e
     (filled_more f 2 (length t) (λ i l. two_numbers (table_shows t i)) c.args.out.now k xs next c.loop-k-test.true c.loop-k.invariant
     (ap (put_mid (2 * k) (2 * k + 2 - 2 * k) xs) is ∙ ap (λ m. put_mid (2 * k) m xs (f k)) n ∙ ap (λ ys. take (2 * k) xs ++ (f k ++ ys)) (drop-drop 2 (2 * k) xs)))
