@@ -1,6 +1,6 @@
 -- The table of a recalculation, with one entry set, and how many cells wait. Assumes nothing.
-use Rattle.std.proofs.Common.{◌≡◌, ℕ, zero, suc, ◌+◌, ◌-◌, ◌<◌, ◌≤◌, ◌≢◌, List, [], ◌∷◌, length, get_or, take, set, replicate, sym, refl, ap, ◌∙◌, subst, ⊎_elim, arith}
-use Rattle.std.proofs.lemmas.List.{length-replicate, length-take-le, take-take, get_or-replicate, get_or-set_same, get_or-set_other, get_or_past}
+use Rattle.std.proofs.Common.{◌≡◌, ℕ, zero, suc, ◌+◌, ◌<◌, ◌≤◌, ◌≢◌, List, [], ◌∷◌, length, get_or, set, replicate, sym, refl, ap, subst, ⊎_elim, arith}
+use Rattle.std.proofs.lemmas.List.{length-replicate, get_or-replicate, get_or-set_same, get_or-set_other, get_or_past}
 use Rattle.std.proofs.lemmas.Bool.{cases_eq, cases_lt}
 use Rattle.evaluate.specs.declared.value.Value.{Value}
 use Rattle.recalc.specs.declared.formulas.Progress.{Progress}
@@ -40,20 +40,6 @@ waiting_less (Waiting ∷ t) (suc k) x l e h = omega (arith, waiting_less t k x 
 waiting_less (Open i ∷ t) (suc k) x l e h = waiting_less t k x (omega arith) e h
 waiting_less (Known v ∷ t) (suc k) x l e h = waiting_less t k x (omega arith) e h
 
-pub waiting_same : (t : List Progress) (k : ℕ) (x : Progress) → (at t k ≡ Waiting → ⊥) → (x ≡ Waiting → ⊥) → waiting (set t k x) ≡ waiting t
-unfolding waiting
-waiting_same [] k x e h = refl
-waiting_same (Waiting ∷ t) zero x e h = absurd (e refl)
-waiting_same (Open i ∷ t) zero Waiting e h = absurd (h refl)
-waiting_same (Open i ∷ t) zero (Open j) e h = refl
-waiting_same (Open i ∷ t) zero (Known v) e h = refl
-waiting_same (Known v ∷ t) zero Waiting e h = absurd (h refl)
-waiting_same (Known v ∷ t) zero (Open j) e h = refl
-waiting_same (Known v ∷ t) zero (Known w) e h = refl
-waiting_same (Waiting ∷ t) (suc k) x e h = ap suc (waiting_same t k x e h)
-waiting_same (Open i ∷ t) (suc k) x e h = waiting_same t k x e h
-waiting_same (Known v ∷ t) (suc k) x e h = waiting_same t k x e h
-
 -- nothing becomes waiting by a set to what is not
 pub later_set : (t : List Progress) (j : ℕ) (x : Progress) → j < length t → (x ≡ Waiting → ⊥) → Later t (set t j x)
 later_set t j x l h = by_entry Waiting t j x (λ k y. y ≡ Waiting → at t k ≡ Waiting) l (λ e. absurd (h e)) (λ k ne e. e)
@@ -79,11 +65,6 @@ waiting_known (Known u ∷ t) zero v = omega arith
 waiting_known (Waiting ∷ t) (suc k) v = omega (arith, waiting_known t k v)
 waiting_known (Open i ∷ t) (suc k) v = waiting_known t k v
 waiting_known (Known u ∷ t) (suc k) v = waiting_known t k v
-
--- one cell less on the stack
-pub popped : (s : List ℕ) (d : ℕ) → d ≤ length s → take (d - 1) s ≡ take (length (take d s) - 1) (take d s)
-popped s d l =
-    sym (ap (λ m. take (m - 1) (take d s)) (length-take-le d s l) ∙ take-take (d - 1) d s (omega arith))
 
 pub all_waiting : (n k : ℕ) → at (replicate n Waiting) k ≡ Waiting
 all_waiting n k =

@@ -10,8 +10,6 @@ use Rattle.evaluate.specs.Evaluation.{attempt}
 use Rattle.evaluate.specs.Knowledge.{In}
 use Rattle.recalc.specs.declared.formulas.Progress.{Progress}
 use Rattle.recalc.specs.declared.formulas.Progress.TheVariants.{Waiting, Open, Known}
-use Rattle.recalc.specs.declared.formulas.Attempt.{Attempt}
-use Rattle.recalc.specs.declared.formulas.Attempt.TheVariants.{Done, Needs}
 use Rattle.recalc.specs.Layout.{checked}
 use Rattle.recalc.specs.Table.{at}
 use Rattle.recalc.specs.Sheets.{Sheet, inside, held, cell_shows, cell_looks, sheet_in}
@@ -68,6 +66,6 @@ tried_cell t None = Ok Empty
 tried_cell t (Some x) = tried (attempt t x)
 
 -- the same as the engine has it
-abbrev pub as_attempt : Sheet → Result Value CellRef → Attempt
-as_attempt s (Ok v) = Done v
-as_attempt s (Err q) = Needs (number_of s q)
+abbrev pub as_attempt : Sheet → Result Value CellRef → Result Value ℕ
+as_attempt s (Ok v) = Ok v
+as_attempt s (Err q) = Err (number_of s q)
