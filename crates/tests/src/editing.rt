@@ -1,6 +1,6 @@
 // Writes: what is told, and what is worked out again.
 use crate::sheets::{add_cell, new_sheet};
-use edit::{Changes, Content, Room, Write, write_shown};
+use edit::{Changes, Room, Write, write_shown};
 use formula::CellRef;
 use std::alloc::{AllocError, Global};
 use std::process::Abort;
@@ -18,14 +18,14 @@ struct Desk {
 
 // Into a cell of row 0; without tokens, a blank.
 fn write_of(col: u64, tokens: &[u64]) -> Write<'_> {
-    let content = if tokens.is_empty() {
-        Content::Blank
+    let formula = if tokens.is_empty() {
+        None
     } else {
-        Content::Formula(tokens)
+        Some(tokens)
     };
     Write {
         place: CellRef { row: 0, col },
-        content,
+        formula,
     }
 }
 
@@ -55,7 +55,7 @@ impl Desk {
     ) -> Result<(), Fail> {
         let write = Write {
             place: CellRef { row: 0, col },
-            content: Content::Formula(tokens),
+            formula: Some(tokens),
         };
         match write_shown(
             self.sheet.as_mut_slice(),
