@@ -6,7 +6,7 @@ use Rattle.formula.specs.Tokens.{the_ref}
 use Rattle.evaluate.specs.declared.value.Value.{Value}
 use Rattle.evaluate.specs.declared.value.Value.TheVariants.{Empty}
 use Rattle.evaluate.specs.declared.stop.Stop.{Stop}
-use Rattle.evaluate.specs.declared.tally.Tally.{Tally}
+use Rattle.evaluate.specs.Tallies.{Tally}
 use Rattle.evaluate.specs.Traces.{Trace, ends, look, bind, looks_on, then, each}
 use Rattle.evaluate.specs.Evaluation.{none_yet, counted, gathered_row, gathered}
 use Rattle.evaluate.specs.Trails.{inside, Log, Follows}

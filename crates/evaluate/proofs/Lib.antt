@@ -1,6 +1,7 @@
 pub mod Trails
 pub mod Clipped
 pub mod Operands
+pub mod Reading
 pub mod Places
 pub mod Related
 pub mod Knowledge

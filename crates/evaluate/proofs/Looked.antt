@@ -1,11 +1,11 @@
 -- What a formula takes from the places that it looks at. Assumes nothing.
-use Rattle.std.proofs.Common.{◌≡◌, ℕ, ◌⊎◌, List, [], ◌∷◌, ◌++◌, Some, Ok, Err, Option, Result, sym, refl, ap, ◌∙◌, subst, inl, inr, arith}
+use Rattle.std.proofs.Common.{◌≡◌, ℕ, ◌⊎◌, List, [], ◌∷◌, ◌++◌, Some, Ok, Err, Option, Result, sym, refl, ap, ◌∙◌, subst, inl, inr}
 use Rattle.formula.specs.declared.token.CellRef.{CellRef}
 use Rattle.formula.specs.Formula.{Formula}
 use Rattle.evaluate.specs.declared.value.CellError.{CellError}
-use Rattle.evaluate.specs.declared.value.CellError.TheVariants.{DivideByZero, OutOfRange, Lost, Cycle}
+use Rattle.evaluate.specs.declared.value.CellError.TheVariants.{Cycle}
 use Rattle.evaluate.specs.declared.value.Value.{Value}
-use Rattle.evaluate.specs.declared.value.Value.TheVariants.{Empty, Number, Error}
+use Rattle.evaluate.specs.declared.value.Value.TheVariants.{Empty, Error}
 use Rattle.evaluate.specs.declared.stop.Stop.{Stop}
 use Rattle.evaluate.specs.declared.stop.Stop.TheVariants as stop
 use Rattle.evaluate.specs.Traces.{Trace, seen, look, bind, looks_on, then}
@@ -71,34 +71,22 @@ module _ (f : ℕ → ℕ → Value) where
   NoCycle ps = (q : CellRef) → In q ps → f q.row q.col ≡ Error Cycle → ⊥
 
   abbrev Calm : {A : Type 0} → Result A Stop → Type 0
-  Calm (Ok a) = Unit {0}
-  Calm (Err (stop.Error DivideByZero)) = Unit {0}
-  Calm (Err (stop.Error OutOfRange)) = Unit {0}
-  Calm (Err (stop.Error Lost)) = Unit {0}
   Calm (Err (stop.Error Cycle)) = ⊥
-  Calm (Err (stop.Needs p)) = Unit {0}
+  Calm o = Unit {0}
 
   calm : (x : Formula) → NoCycle (looked_at f x) → Calm (attempt (known f) x)
   calm = related (known f) (known f) (λ A t u. NoCycle t.looks → Calm t.end) (λ A o p h. at_end o p) at_look at_then
     where
       at_end : {A : Type 0} (o : Result A Stop) → Plain o → Calm o
-      at_end (Ok a) p = tt
-      at_end (Err (stop.Error DivideByZero)) p = tt
-      at_end (Err (stop.Error OutOfRange)) p = tt
-      at_end (Err (stop.Error Lost)) p = tt
       at_end (Err (stop.Error Cycle)) p = p
-      at_end (Err (stop.Needs q)) p = tt
+      at_end o p = tt
 
       at_look : (A : Type 0) (p : CellRef) (go : Option ℕ → A) → NoCycle (p ∷ []) → Calm (look (known f) p go).end
       at_look A p go h = one (f p.row p.col) (h p here)
         where
           one : (v : Value) → (v ≡ Error Cycle → ⊥) → Calm (seen p (Some v) go)
-          one Empty n = tt
-          one (Number m) n = tt
-          one (Error DivideByZero) n = tt
-          one (Error OutOfRange) n = tt
-          one (Error Lost) n = tt
           one (Error Cycle) n = n refl
+          one v n = tt
 
       at_then : (A B : Type 0) (t u : Trace A) (go on : A → Trace B) → (NoCycle t.looks → Calm t.end) → ((a : A) → NoCycle (go a).looks → Calm (go a).end)
           → NoCycle (then t go).looks → Calm (then t go).end
@@ -106,11 +94,8 @@ module _ (f : ℕ → ℕ → Value) where
         where
           both : (o : Result A Stop) → t.end ≡ o → Calm o → Calm (bind o (λ a. (go a).end))
           both (Ok a) e c = k a (λ q i. h q (in_second t go a e i))
-          both (Err (stop.Error DivideByZero)) e c = tt
-          both (Err (stop.Error OutOfRange)) e c = tt
-          both (Err (stop.Error Lost)) e c = tt
           both (Err (stop.Error Cycle)) e c = c
-          both (Err (stop.Needs p)) e c = tt
+          both (Err x) e c = tt
 
   -- one of the places shows it, or none does
   find : (ps : List CellRef) → ((q : CellRef) × In q ps × (f q.row q.col ≡ Error Cycle)) ⊎ NoCycle ps
@@ -126,29 +111,21 @@ module _ (f : ℕ → ℕ → Value) where
           inr (λ q i d. elim (in_first i) [ inl same ↦ n (sym e ∙ subst (λ (r : CellRef). f r.row r.col ≡ Error Cycle) same d) | inr j ↦ h q j d ])
 
       go : (v : Value) → f p.row p.col ≡ v → Found ps ⊎ NoCycle ps → Found (p ∷ ps) ⊎ NoCycle (p ∷ ps)
-      go Empty e x = past Empty e (λ d. let z : ◌≡◌ {A = ℕ} 0 1 = cc in omega arith) x
-      go (Number m) e x = past (Number m) e (λ d. let z : ◌≡◌ {A = ℕ} 0 1 = cc in omega arith) x
-      go (Error DivideByZero) e x = past (Error DivideByZero) e (λ d. let z : ◌≡◌ {A = ℕ} 0 1 = cc in omega arith) x
-      go (Error OutOfRange) e x = past (Error OutOfRange) e (λ d. let z : ◌≡◌ {A = ℕ} 0 1 = cc in omega arith) x
-      go (Error Lost) e x = past (Error Lost) e (λ d. let z : ◌≡◌ {A = ℕ} 0 1 = cc in omega arith) x
       go (Error Cycle) e x = inl (p, here, e)
+      go v e x = past v e (λ d. cc) x
 
   pub cycle_looked_at : (x : Formula) → evaluated f x ≡ Error Cycle → (q : CellRef) × In q (looked_at f x) × (f q.row q.col ≡ Error Cycle)
   cycle_looked_at x e = elim (find (looked_at f x)) [ inl found ↦ found | inr none ↦ absurd (uncalm (attempt (known f) x) (calm x none) e) ]
     where
       uncalm : (o : Result ℕ Stop) → Calm o → value_of o ≡ Error Cycle → ⊥
-      uncalm (Ok n) c d = let z : ◌≡◌ {A = ℕ} 0 1 = cc in omega arith
-      uncalm (Err (stop.Error DivideByZero)) c d = let z : ◌≡◌ {A = ℕ} 0 1 = cc in omega arith
-      uncalm (Err (stop.Error OutOfRange)) c d = let z : ◌≡◌ {A = ℕ} 0 1 = cc in omega arith
-      uncalm (Err (stop.Error Lost)) c d = let z : ◌≡◌ {A = ℕ} 0 1 = cc in omega arith
       uncalm (Err (stop.Error Cycle)) c d = c
-      uncalm (Err (stop.Needs p)) c d = let z : ◌≡◌ {A = ℕ} 0 1 = cc in omega arith
+      uncalm o c d = cc
 
   -- a formula never shows nothing
   pub never_empty : (x : Formula) → evaluated f x ≡ Empty → ⊥
   never_empty x e = go (attempt (known f) x) (wanting (known f) x) e
     where
       go : (o : Result ℕ Stop) → Wanting (known f) o → value_of o ≡ Empty → ⊥
-      go (Ok n) w d = let z : ◌≡◌ {A = ℕ} 0 1 = cc in omega arith
-      go (Err (stop.Error x)) w d = let z : ◌≡◌ {A = ℕ} 0 1 = cc in omega arith
-      go (Err (stop.Needs p)) w d = let z : ◌≡◌ {A = ℕ} 0 1 = cc in omega arith
+      go (Ok n) w d = cc
+      go (Err (stop.Error x)) w d = cc
+      go (Err (stop.Needs p)) w d = cc

@@ -11,18 +11,15 @@ use Rattle.evaluate.specs.declared.value.CellError.TheVariants.{DivideByZero, Ou
 use Rattle.evaluate.specs.declared.value.Value.{Value}
 use Rattle.evaluate.specs.declared.stop.Stop.{Stop}
 use Rattle.evaluate.specs.declared.stop.Stop.TheVariants as stop
-use Rattle.evaluate.specs.declared.tally.Tally.{Tally}
+use Rattle.evaluate.specs.Tallies.{Tally}
 use Rattle.evaluate.specs.Traces.{Trace, ends, look, then, each}
 use Rattle.evaluate.specs.Evaluation.{fits, applied, none_yet, counted, gathered_row, gathered, finished, trace}
 
 -- what work that looks at nothing may end with: a number, or an error of its own
 abbrev pub Plain : {A : Type 0} → Result A Stop → Type 0
-Plain (Ok a) = Unit {0}
-Plain (Err (stop.Error DivideByZero)) = Unit {0}
-Plain (Err (stop.Error OutOfRange)) = Unit {0}
-Plain (Err (stop.Error Lost)) = Unit {0}
 Plain (Err (stop.Error Cycle)) = ⊥
 Plain (Err (stop.Needs p)) = ⊥
+Plain o = Unit {0}
 
 plain_cond : {A : Type 0} (b : Bool) (o q : Result A Stop) → Plain o → Plain q → Plain (cond b o q)
 plain_cond true o q h k = h

@@ -14,7 +14,7 @@ use Rattle.evaluate.specs.declared.value.Value.{Value}
 use Rattle.evaluate.specs.declared.value.Value.TheVariants.{Empty, Number, Error}
 use Rattle.evaluate.specs.declared.stop.Stop.{Stop}
 use Rattle.evaluate.specs.declared.stop.Stop.TheVariants as stop
-use Rattle.evaluate.specs.declared.tally.Tally.{Tally}
+use Rattle.evaluate.specs.Tallies.{Tally}
 use Rattle.evaluate.specs.Traces.{Trace, ends, look, then, each}
 
 -- a number of 64 bits

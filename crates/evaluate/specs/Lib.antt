@@ -1,8 +1,11 @@
 pub mod Limits
 pub mod Values
 pub mod Traces
+pub mod Tallies
 pub mod Evaluation
 pub mod Trails
+pub mod Sheets
+pub mod Reads
 pub mod Looking
 pub mod Knowledge
 pub mod Laws

@@ -1,8 +1,7 @@
 -- Trails: the places of a sheet that were looked at. Assumes nothing: these are definitions.
-use Rattle.std.specs.Prelude.{◌≡◌, ℕ, ◌+◌, ◌-◌, ◌*◌, ◌^◌, ◌<◌, ◌≤◌, Bool, true, false, cond, ◌&&◌, List, [], ◌∷◌, ◌++◌, length, Result, nat_lt}
+use Rattle.std.specs.Prelude.{◌≡◌, ℕ, ◌+◌, ◌<◌, ◌≤◌, Bool, true, false, cond, ◌&&◌, List, [], ◌∷◌, ◌++◌, length, Result, nat_lt}
 use Rattle.formula.specs.declared.token.CellRef.{CellRef}
 use Rattle.evaluate.specs.declared.stop.Stop.{Stop}
-use Rattle.evaluate.specs.declared.tally.Tally.{Tally}
 use Rattle.evaluate.specs.Traces.{Trace}
 
 -- the places of a list that lie in a sheet of h rows and w columns
@@ -27,7 +26,3 @@ pub record Kept (before : Log) (ps : List CellRef) (after : Log) : Type 0 where
 pub record Follows {A : Type 0} (h w : ℕ) (t : Trace A) (r : Result A Stop) (before after : Log) : Type 0 where
   pub end : r ≡ t.end
   pub trail : Kept before (inside h w t.looks) after
-
--- so many numbers of 64 bits come to no more
-abbrev pub Bounded : Tally → Type 0
-Bounded t = t.total ≤ t.count * (2 ^ 64 - 1)

@@ -1,29 +1,25 @@
 // What the cells of a sheet show so far.
-ghost use Rattle.std.specs.Prelude.{◌≡◌, ℕ, ◌≤◌, Some, Option};
-ghost use Rattle.evaluate.specs.declared.value.Value.{Value};
+ghost use Rattle.std.specs.Prelude.{◌≡◌, ℕ, ◌≤◌, Some};
 ghost use Rattle.evaluate.specs.declared.value.Value.TheVariants.{Empty};
 ghost use Rattle.evaluate.specs.Limits.{max_rows, max_columns};
+ghost use Rattle.evaluate.specs.Sheets.{Sheet};
 
 use crate::value::Value;
 
 // Outside the sheet every cell is empty; of a cell that is None it is not known yet what it shows.
 pub trait Cells {
-    ghost height: { Self → ℕ };
-
-    ghost width: { Self → ℕ };
-
-    ghost shown: { Self → ℕ → ℕ → Option Value };
+    ghost sheet: { Self → Sheet };
 
     fn rows(&self) -> u64
-        ensures is { result ≡ height self.now }
+        ensures is { result ≡ (sheet self.now).height }
         ensures few { result ≤ max_rows }
-        ensures below { (i j : ℕ) → result ≤ i → shown self.now i j ≡ Some Empty };
+        ensures below { (i j : ℕ) → result ≤ i → (sheet self.now).shown i j ≡ Some Empty };
 
     fn cols(&self) -> u64
-        ensures is { result ≡ width self.now }
+        ensures is { result ≡ (sheet self.now).width }
         ensures few { result ≤ max_columns }
-        ensures beside { (i j : ℕ) → result ≤ j → shown self.now i j ≡ Some Empty };
+        ensures beside { (i j : ℕ) → result ≤ j → (sheet self.now).shown i j ≡ Some Empty };
 
     fn at(&self, row: u64, col: u64) -> Option<Value>
-        ensures { result ≡ shown self.now row col };
+        ensures { result ≡ (sheet self.now).shown row col };
 }

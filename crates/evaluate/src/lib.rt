@@ -7,6 +7,7 @@ mod evaluating;
 mod fold;
 mod laws;
 mod limits;
+mod reader;
 mod stop;
 mod tally;
 mod trail;
@@ -15,7 +16,7 @@ mod value;
 mod work;
 
 pub use cells::Cells;
-pub use evaluating::{evaluate, looks};
+pub use evaluating::{evaluate, evaluate_expression, looks};
 pub use laws::{ends_at_first_unknown, errors_spread, looks_are_enough, settled_stays};
 pub use limits::{MAX_COLUMNS, MAX_ROWS};
 pub use stop::Stop;

@@ -1,8 +1,9 @@
 // Where the places that a formula looks at are noted.
-ghost use Rattle.std.specs.Prelude.{false, not, [], ◌∷◌, vec_capacity};
+ghost use Rattle.std.specs.Prelude.{false, [], ◌∷◌, is_ok, vec_capacity};
 ghost use Rattle.evaluate.specs.Trails.{Log, Kept};
 
 use formula::CellRef;
+use std::alloc::AllocError;
 
 pub trait Trail {
     ghost log: { Self → Log };
@@ -25,15 +26,15 @@ impl Trail for Untold {
 #[derive(Drop)]
 pub struct Listed {
     pub places: Vec<CellRef>,
-    pub full: bool,
+    pub outcome: Result<(), AllocError>,
 }
 
 impl Trail for Listed {
-    ghost log = { λ s. record { places = s.places.items; room = vec_capacity s.places; whole = not s.full } };
+    ghost log = { λ s. record { places = s.places.items; room = vec_capacity s.places; whole = is_ok s.outcome } };
 
     fn note(&mut self, place: CellRef) {
-        if !self.full {
-            self.full = self.places.push(place).is_err();
+        if self.outcome.is_ok() {
+            self.outcome = self.places.push(place).map_err(AllocError::from);
         }
     }
 }

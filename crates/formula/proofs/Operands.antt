@@ -75,7 +75,8 @@ rest_before n [] h = absurd (grind arith)
 rest_before zero (x ∷ more) h = refl
 rest_before (suc n) (x ∷ more) h = rest_before n more h
 
-after_some : (n : ℕ) (xs : List ℕ) → is_some (formula_at n (reads xs)) ≡ true → is_some (after n xs) ≡ true
+-- something is left before a formula
+pub after_some : (n : ℕ) (xs : List ℕ) → is_some (formula_at n (reads xs)) ≡ true → is_some (after n xs) ≡ true
 after_some zero xs h = refl
 after_some (suc n) xs h = rest_before n (reads xs) h
 
@@ -132,3 +133,12 @@ operand_there n xs h = go (after n xs) refl (after_some n xs h)
         let s = skipped xs n ys a in
         let same : formula_at 0 (reads ys) ≡ formula_at n (reads xs) = ap (formula_at 0) s.reads_rest ∙ at_drop n (reads xs) in
         token_there ys (decoded ys) refl (rw same h)
+
+-- before what is left after one formula stands that formula
+pub first_there : (more : List Read) (ys : List ℕ) → Some ys ≡ rest_at 0 more → is_some (formula_at 0 more) ≡ true
+first_there [] ys e = absurd (grind arith)
+first_there (x ∷ more) ys e = refl
+
+-- the row that is left after n formulas begins with the next
+pub next_first : (n : ℕ) (xs ys : List ℕ) → after n xs ≡ Some ys → (formula_at 0 (reads ys) ≡ formula_at n (reads xs)) × (length ys ≤ length xs)
+next_first n xs ys e = let s = skipped xs n ys e in let r = s.room in (ap (formula_at 0) s.reads_rest ∙ at_drop n (reads xs), omega arith)

@@ -1,6 +1,7 @@
 -- One token more: rows gone through token by token. Assumes nothing.
 use Rattle.std.proofs.Common.{◌≡◌, ℕ, zero, suc, ◌+◌, ◌≤◌, List, [], ◌∷◌, length, get_or, drop, Some, None, Option, refl, ap, ◌∙◌, arith}
-use Rattle.std.specs.Option.{option_map}
+use Rattle.std.specs.Option.{ok_or, option_map}
+use Rattle.std.specs.Result.{result_ok}
 use Rattle.formula.specs.declared.token.Token.{Token}
 use Rattle.formula.specs.declared.token.Token.TheVariants.{Number, Cell, Fold, Binary, IfLess}
 use Rattle.formula.specs.Layout.{token_len}
@@ -115,3 +116,8 @@ joins_step n IfLess xs = let e : n + 4 ≡ suc (suc (suc (suc n))) = omega arith
 -- a formula more to skip is, after its first token, as many more as that needs
 pub after_step : (n : ℕ) (xs ys : List ℕ) (t : Token) → decoded xs ≡ Some (t, ys) → after (suc n) xs ≡ after (n + needs t) ys
 after_step n xs ys t e = ap (rest_at n) (reads_step xs ys t e) ∙ joins_step n t ys
+
+-- an option as a result, as an option again
+pub ok_again : {A E : Type 0} (o : Option A) (e : E) → result_ok (ok_or o e) ≡ o
+ok_again None e = refl
+ok_again (Some x) e = refl

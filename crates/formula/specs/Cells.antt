@@ -1,5 +1,5 @@
 -- What a cell of a lent sheet holds, and the numbers that a formula is stored as. Assumes nothing: these are definitions.
-use Rattle.std.specs.Prelude.{ℕ, zero, suc, ◌-◌, ◌*◌, cond, List, [], ◌∷◌, ◌++◌, length, take, drop, replicate, is_some, Some, None, Ok, Err, Option, Result, nat_le, nat_lt, slice_index}
+use Rattle.std.specs.Prelude.{ℕ, zero, suc, ◌-◌, ◌*◌, Bool, true, false, cond, List, [], ◌∷◌, ◌++◌, length, take, drop, replicate, is_some, Some, None, Ok, Err, Option, Result, nat_le, nat_lt, slice_index}
 use Rattle.formula.specs.declared.cell.Cell.{Cell}
 use Rattle.formula.specs.declared.cell.Cell.TheVariants.{Blank, Formula, Malformed}
 use Rattle.formula.specs.declared.cell.NotWritten.{NotWritten}
@@ -24,6 +24,17 @@ counted (suc n) xs = cond (nat_le (suc n) max_tokens) (formula_or (take (token_l
 -- how many tokens there are, and then the tokens; what stands behind them is ignored
 abbrev pub content : List ℕ → Content
 content xs = cond (nat_lt (length xs) cell_len) malformed (counted (slice_index xs 0) (drop 1 xs))
+
+abbrev pub is_malformed : Content → Bool
+is_malformed blank = false
+is_malformed (holds ts) = false
+is_malformed malformed = true
+
+-- the formula that a cell holds
+abbrev pub formula_in : Content → Option formula.Formula
+formula_in blank = None
+formula_in (holds ts) = spelled ts
+formula_in malformed = None
 
 -- what the code's answer says
 abbrev pub meant : Cell → Content

@@ -7,3 +7,5 @@ pub mod Writing
 pub mod Cells
 pub mod Moving
 pub mod Laws
+pub mod Expressions
+pub mod Texts

@@ -1,5 +1,5 @@
 -- What five numbers of a lent row stand for. Assumes nothing: these are definitions.
-use Rattle.std.specs.Prelude.{ℕ, List, [], ◌∷◌, Some, None, Option, slice_index_or}
+use Rattle.std.specs.Prelude.{ℕ, List, [], ◌∷◌, Some, None, Option, slice_index, slice_index_or}
 use Rattle.std.specs.Option.{option_map}
 use Rattle.formula.specs.declared.token.CellRef.{CellRef}
 use Rattle.formula.specs.declared.token.Range.{Range}
@@ -37,6 +37,10 @@ kinds a b c d =
 
 abbrev pub token : ℕ → ℕ → ℕ → ℕ → ℕ → Option Token
 token k a b c d = slice_index_or (kinds a b c d) k None
+
+-- the same of a kind and four numbers one after another
+abbrev pub token_in : List ℕ → Option Token
+token_in ns = token (slice_index ns 0) (slice_index ns 1) (slice_index ns 2) (slice_index ns 3) (slice_index ns 4)
 
 -- how many formulas stand after a token
 abbrev pub needs : Token → ℕ

@@ -1,10 +1,12 @@
 // One cell of a lent sheet: 61 numbers, how many tokens its formula has and room for 12.
-ghost use Rattle.std.specs.Prelude.{◌≡◌, ◌≤◌, true, ◌++◌, length, drop, is_some, Some};
-ghost use Rattle.std.specs.Option.{option_map};
+ghost use Rattle.std.specs.Prelude.{◌≡◌, ◌≤◌, true, false, ◌++◌, length, drop, is_some, Some};
+ghost use Rattle.std.specs.Option.{option_and_then, option_map};
 ghost use Rattle.formula.specs.Layout.{cell_len};
 ghost use Rattle.formula.specs.Reading.{spelled};
-ghost use Rattle.formula.specs.Cells.{content, meant, stored, written, answered, kept};
+ghost use Rattle.formula.specs.Expressions.{formula_of};
+ghost use Rattle.formula.specs.Cells.{content, is_malformed, formula_in, meant, stored, written, answered, kept};
 
+use crate::expression::Expression;
 use crate::layout::{CELL_LEN, MAX_TOKENS, TOKEN_LEN};
 use crate::moving::{Moves, rewrite};
 use crate::reading::is_formula;
@@ -63,6 +65,22 @@ impl<'a> Cell<'a> {
         }
         store(numbers, tokens);
         Ok(())
+    }
+}
+
+impl<'a> Expression<'a> {
+    // The formula of a cell that is known to be well formed, so that nothing is checked again; None if the cell is blank.
+    pub fn in_cell(numbers: &'a [u64]) -> Option<Expression<'a>>
+        requires { is_malformed (content numbers.now) ≡ false }
+        ensures { option_and_then formula_of result ≡ formula_in (content numbers.now) }
+    {
+        let count = numbers[0] as usize;
+        if count == 0 {
+            return None;
+        }
+        Some(Expression {
+            tokens: &numbers[1..1 + TOKEN_LEN * count],
+        })
     }
 }
 

@@ -2,15 +2,11 @@
 ghost use Rattle.formula.specs.Laws.{ReadingIsSpelling, WrittenIsRead};
 
 // A row is read as a formula exactly if it spells it.
-pub fn reading_is_spelling() -> u8
+pub fn reading_is_spelling()
     ensures { ReadingIsSpelling }
-{
-    0
-}
+{}
 
 // What was written is read back.
-pub fn written_is_read() -> u8
+pub fn written_is_read()
     ensures { WrittenIsRead }
-{
-    0
-}
+{}

@@ -42,7 +42,7 @@ pub fn rewrite<M: Moves>(tokens: &mut [u64], moves: &M)
     let Some((token, _)) = read_token(tokens) else {
         return;
     };
-    let numbers = move_token(token, moves).encode();
+    let numbers = <[u64; TOKEN_LEN]>::from(move_token(token, moves));
     tokens[0..TOKEN_LEN].copy_from_slice(&numbers);
     rewrite(&mut tokens[TOKEN_LEN..], moves);
 }

@@ -4,7 +4,8 @@ ghost use Rattle.std.specs.Option.{option_map};
 ghost use Rattle.formula.specs.Tokens.{decoded};
 ghost use Rattle.formula.specs.Reading.{after, operand_of, reads, formula_at, Operand, spelled};
 
-use crate::layout::{FORMULA_LEN, TOKEN_LEN};
+use crate::expression::Expression;
+use crate::layout::TOKEN_LEN;
 use crate::token::Token;
 
 // The first token, and the numbers after it.
@@ -14,12 +15,12 @@ pub fn read_token(tokens: &[u64]) -> Option<(Token, &[u64])>
     let [kind, a, b, c, d, rest @ ..] = tokens else {
         return None;
     };
-    let token = Token::decode(*kind, *a, *b, *c, *d)?;
+    let token = Token::try_from([*kind, *a, *b, *c, *d]).ok()?;
     Some((token, rest))
 }
 
 // What is left after so many formulas; each has at least one token.
-fn skip(tokens: &[u64], formulas: usize) -> Option<&[u64]>
+pub(crate) fn skip(tokens: &[u64], formulas: usize) -> Option<&[u64]>
     ensures { option_map (λ s. s.now) result ≡ after formulas tokens.now }
 {
     if formulas == 0 {
@@ -45,11 +46,5 @@ pub fn read_operand(tokens: &[u64], nth: usize) -> Option<(Token, &[u64])>
 pub fn is_formula(tokens: &[u64]) -> bool
     ensures { result ≡ is_some (spelled tokens.now) }
 {
-    if tokens.len() > FORMULA_LEN {
-        return false;
-    }
-    match skip(tokens, 1) {
-        Some(rest) => rest.is_empty(),
-        None => false,
-    }
+    Expression::read(tokens).is_some()
 }

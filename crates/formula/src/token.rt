@@ -1,6 +1,7 @@
 // One token of a formula: its kind, and what it holds.
-ghost use Rattle.std.specs.Prelude.{◌≡◌, Some, slice_index};
-ghost use Rattle.formula.specs.Tokens.{token, needs, numbers};
+ghost use Rattle.std.specs.Prelude.{◌≡◌, Some};
+ghost use Rattle.std.specs.Option.{ok_or};
+ghost use Rattle.formula.specs.Tokens.{token_in, needs, numbers};
 
 use crate::layout::TOKEN_LEN;
 
@@ -44,11 +45,18 @@ pub enum Token {
     IfLess,
 }
 
-impl Token {
-    // What a kind and four more numbers stand for; those that the kind does not use are ignored.
-    pub fn decode(kind: u64, a: u64, b: u64, c: u64, d: u64) -> Option<Token>
-        ensures { result ≡ token kind a b c d }
-    {
+// A kind that no token has.
+#[derive(Clone, Copy)]
+pub struct UnknownKind;
+
+// A kind and four more numbers; those that the kind does not use are ignored.
+impl TryFrom<[u64; TOKEN_LEN]> for Token {
+    type Error = UnknownKind;
+
+    ghost try_from_gives = { λ ns t. t ≡ ok_or (token_in ns) (record {}) };
+
+    fn try_from(numbers: [u64; TOKEN_LEN]) -> Result<Token, UnknownKind> {
+        let [kind, a, b, c, d] = numbers;
         let range = Range {
             row: a,
             rows: b,
@@ -70,28 +78,18 @@ impl Token {
             11 => Token::Binary(Operator::Multiply),
             12 => Token::Binary(Operator::Divide),
             13 => Token::IfLess,
-            _ => return None,
+            _ => return Err(UnknownKind),
         };
-        Some(token)
+        Ok(token)
     }
+}
 
-    // How many formulas stand after it.
-    pub fn needs(self) -> usize
-        ensures { result ≡ needs self }
-    {
-        match self {
-            Token::Number(_) | Token::Cell(_) | Token::Fold(_, _) => 0,
-            Token::Binary(_) => 2,
-            Token::IfLess => 4,
-        }
-    }
+// The unused numbers are 0.
+impl From<Token> for [u64; TOKEN_LEN] {
+    ghost from_gives = { λ t ns. (ns ≡ numbers t) × (token_in ns ≡ Some t) };
 
-    // Its five numbers, the unused ones 0.
-    pub fn encode(self) -> [u64; TOKEN_LEN]
-        ensures is { result ≡ numbers self }
-        ensures back { token (slice_index result 0) (slice_index result 1) (slice_index result 2) (slice_index result 3) (slice_index result 4) ≡ Some self }
-    {
-        match self {
+    fn from(token: Token) -> [u64; TOKEN_LEN] {
+        match token {
             Token::Number(n) => [0, n, 0, 0, 0],
             Token::Cell(Some(cell)) => [1, cell.row, cell.col, 0, 0],
             Token::Cell(None) => [2, 0, 0, 0, 0],
@@ -121,6 +119,19 @@ impl Token {
                 [kind, 0, 0, 0, 0]
             }
             Token::IfLess => [13, 0, 0, 0, 0],
+        }
+    }
+}
+
+impl Token {
+    // How many formulas stand after it.
+    pub fn needs(self) -> usize
+        ensures { result ≡ needs self }
+    {
+        match self {
+            Token::Number(_) | Token::Cell(_) | Token::Fold(_, _) => 0,
+            Token::Binary(_) => 2,
+            Token::IfLess => 4,
         }
     }
 }

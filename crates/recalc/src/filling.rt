@@ -5,11 +5,7 @@ use crate::filled::Filled;
 use evaluate::{Cells, Value};
 
 impl<'a> Cells for Filled<'a> {
-    ghost height = { λ s. s.size.rows };
-
-    ghost width = { λ s. s.size.cols };
-
-    ghost shown = { in_table };
+    ghost sheet = { λ s. record { height = s.size.rows; width = s.size.cols; shown = in_table s } };
 
     fn rows(&self) -> u64 {
         self.size.rows

@@ -1,6 +1,8 @@
 // A sheet in lent memory that is not refused, as a language: what the engine asks of a cell.
 ghost use Rattle.std.specs.Prelude.{◌≡◌, ◌<◌, ◌≤◌, true, length, is_ok, IfOk};
+ghost use Rattle.std.specs.Option.{option_and_then};
 ghost use Rattle.std.specs.Result.{result_map_both};
+ghost use Rattle.formula.specs.Expressions.{formula_of};
 ghost use Rattle.formula.specs.Cells.{content, meant};
 ghost use Rattle.evaluate.specs.Limits.{max_cells};
 ghost use Rattle.recalc.specs.Layout.{rows_in, cols_in, size_in, checked, cell_numbers};
@@ -11,10 +13,10 @@ ghost use Rattle.recalc.specs.SheetLaws;
 use crate::filled::Filled;
 use crate::formulas::{Formulas, Progress};
 use crate::refusal::Refusal;
-use crate::sheet::{cell_at, check_sheet, number_at};
+use crate::sheet::{HEADER_LEN, cell_at, check_sheet, number_at};
 use crate::size::Size;
-use evaluate::{Stop, Value, evaluate};
-use formula::{Cell, CellRef};
+use evaluate::{Stop, Value, evaluate_expression};
+use formula::{CELL_LEN, Cell, CellRef, Expression};
 
 #[derive(Clone, Copy)]
 pub struct LentSheet<'a> {
@@ -68,23 +70,29 @@ impl<'a> LentSheet<'a> {
         cell_at(self.nums, k)
     }
 
+    // The formula of cell k, which is well formed as each cell is; None if the cell is blank.
+    fn formula(&self, k: usize) -> Option<Expression<'a>>
+        requires { k < count (sheet_in self.now.nums.now) }
+        ensures { option_and_then formula_of result ≡ nth_cell (sheet_in self.now.nums.now) k }
+    {
+        let from = HEADER_LEN + CELL_LEN * k;
+        Expression::in_cell(&self.nums[from..from + CELL_LEN])
+    }
+
     // Cell k worked out from what is known, or the place that is wanted.
     fn try_cell(&self, k: usize, table: &[Progress]) -> Result<Value, CellRef>
         requires within { k < count (sheet_in self.now.nums.now) }
         requires table { length table.now ≡ count (sheet_in self.now.nums.now) }
         ensures { result ≡ tried_cell (laid_known self.now.size.rows self.now.size.cols table.now) (nth_cell (sheet_in self.now.nums.now) k) }
     {
-        let Cell::Formula(tokens) = self.cell(k) else {
+        let Some(expression) = self.formula(k) else {
             return Ok(Value::Empty);
         };
         let filled = Filled {
             size: self.size,
             table,
         };
-        let Some(end) = evaluate(tokens, &filled) else {
-            return Ok(Value::Empty);
-        };
-        shown_as(end)
+        shown_as(evaluate_expression(expression, &filled))
     }
 }
 

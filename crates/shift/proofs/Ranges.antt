@@ -6,7 +6,7 @@ use Rattle.formula.specs.Tokens.{the_ref, the_range}
 use Rattle.evaluate.specs.declared.value.Value.{Value}
 use Rattle.evaluate.specs.declared.value.Value.TheVariants.{Empty, Number, Error}
 use Rattle.evaluate.specs.declared.stop.Stop.{Stop}
-use Rattle.evaluate.specs.declared.tally.Tally.{Tally}
+use Rattle.evaluate.specs.Tallies.{Tally}
 use Rattle.evaluate.specs.Traces.{Trace, seen, look, bind, each}
 use Rattle.evaluate.specs.Evaluation.{none_yet, counted, gathered_row, gathered, known}
 use Rattle.shift.specs.declared.shift.Axis.{Axis}

@@ -1,7 +1,8 @@
 // Writes: what is told, and what is worked out again.
-use crate::sheets::{add_cell, new_sheet};
+use crate::places::listed;
 use edit::{Changes, Room, Write, write_shown};
 use formula::CellRef;
+use samples::{add_cell, new_sheet};
 use std::alloc::{AllocError, Global};
 use std::process::Abort;
 use std::test::*;
@@ -107,17 +108,6 @@ impl Desk {
             None => Err(Fail::new("more than there is")),
         }
     }
-}
-
-fn listed(heap: Global, places: &[CellRef]) -> Result<String, AllocError> {
-    let mut text = String::new(heap);
-    for place in places {
-        let row = place.row;
-        let col = place.col;
-        let word = format!(in heap; " {row},{col}")?;
-        text.push_str(word.as_str())?;
-    }
-    Ok(text)
 }
 
 const FIVE: [u64; 5] = [0, 5, 0, 0, 0];

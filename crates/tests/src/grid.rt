@@ -11,11 +11,7 @@ pub struct Grid {
 }
 
 impl Cells for Grid {
-    ghost height = { λ _. 3 };
-
-    ghost width = { λ _. 3 };
-
-    ghost shown = { λ g r c. (if nat_lt r 3 && nat_lt c 3 then slice_index_or g.values (3 * r + c) None else Some Empty) };
+    ghost sheet = { λ g. record { height = 3; width = 3; shown = λ r c. (if nat_lt r 3 && nat_lt c 3 then slice_index_or g.values (3 * r + c) None else Some Empty) } };
 
     fn rows(&self) -> u64 {
         3

@@ -6,9 +6,9 @@ mod editing;
 #[cfg(test)]
 mod grid;
 #[cfg(test)]
-mod reading;
+mod places;
 #[cfg(test)]
-mod sheets;
+mod reading;
 #[cfg(test)]
 mod shifting;
 #[cfg(test)]

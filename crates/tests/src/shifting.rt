@@ -1,7 +1,7 @@
 // Rows and columns inserted and deleted, at the edges and in the middle.
-use crate::sheets::{add_cell, new_sheet};
 use formula::{Cell, CellRef};
 use recalc::{Refusal, Size, cell_at, show_sheet};
+use samples::{add_cell, new_sheet};
 use shift::{Axis, Change, Shift, insert_values, shift_sheet};
 use std::alloc::{AllocError, Global};
 use std::process::Abort;
@@ -81,89 +81,77 @@ fn holds(rt: &impl Abort, sheet: &[u64], k: usize, tokens: &[u64]) -> Result<(),
 }
 
 fn becomes(
-    rt: &impl Abort,
-    heap: Global,
+    rt: &(impl Abort + AllocGlobal),
     shift: Shift,
     before: &[u64],
     after: &[u64],
 ) -> Result<(), Fail> {
-    let mut sheet = sheet_with(heap, before)?;
+    let mut sheet = sheet_with(rt.alloc(), before)?;
     assert!(rt; shift_sheet(sheet.as_mut_slice(), shift, Size { rows: 5, cols: 5 }).is_ok());
     let Some(place) = shift.reference_after(CellRef { row: 1, col: 1 }) else {
         return Err(Fail::new("the cell was deleted"));
     };
-    let cols = match sheet.get(1) {
-        Some(n) => *n,
-        None => 0,
-    };
+    let cols = sheet.get(1).copied().unwrap_or(0);
     let k = place.row.saturating_mul(cols).saturating_add(place.col);
     holds(rt, sheet.as_slice(), k as usize, after)
 }
 
-fn inserting(rt: &impl Abort, heap: Global, axis: Axis) -> Result<(), Fail> {
+fn inserting(rt: &(impl Abort + AllocGlobal), axis: Axis) -> Result<(), Fail> {
     let at = Shift {
         axis,
         change: Change::Insert,
         line: 2,
     };
-    becomes(rt, heap, at, &reference(axis, 1), &reference(axis, 1))?;
-    becomes(rt, heap, at, &reference(axis, 2), &reference(axis, 3))?;
-    becomes(rt, heap, at, &reference(axis, 77), &reference(axis, 78))?;
+    becomes(rt, at, &reference(axis, 1), &reference(axis, 1))?;
+    becomes(rt, at, &reference(axis, 2), &reference(axis, 3))?;
+    becomes(rt, at, &reference(axis, 77), &reference(axis, 78))?;
     becomes(
         rt,
-        heap,
         at,
         &reference(axis, u64::MAX),
         &reference(axis, u64::MAX),
     )?;
     // Behind its last.
-    becomes(rt, heap, at, &total(axis, 0, 2), &total(axis, 0, 2))?;
+    becomes(rt, at, &total(axis, 0, 2), &total(axis, 0, 2))?;
     // Before its last.
-    becomes(rt, heap, at, &total(axis, 0, 3), &total(axis, 0, 4))?;
+    becomes(rt, at, &total(axis, 0, 3), &total(axis, 0, 4))?;
     // Behind its first.
-    becomes(rt, heap, at, &total(axis, 1, 2), &total(axis, 1, 3))?;
+    becomes(rt, at, &total(axis, 1, 2), &total(axis, 1, 3))?;
     // Before its first.
-    becomes(rt, heap, at, &total(axis, 2, 1), &total(axis, 3, 1))?;
-    becomes(rt, heap, at, &total(axis, 2, 0), &total(axis, 3, 0))?;
-    becomes(
-        rt,
-        heap,
-        at,
-        &total(axis, 0, u64::MAX),
-        &total(axis, 0, u64::MAX),
-    )
+    becomes(rt, at, &total(axis, 2, 1), &total(axis, 3, 1))?;
+    becomes(rt, at, &total(axis, 2, 0), &total(axis, 3, 0))?;
+    becomes(rt, at, &total(axis, 0, u64::MAX), &total(axis, 0, u64::MAX))
 }
 
-fn deleting(rt: &impl Abort, heap: Global, axis: Axis) -> Result<(), Fail> {
+fn deleting(rt: &(impl Abort + AllocGlobal), axis: Axis) -> Result<(), Fail> {
     let at = Shift {
         axis,
         change: Change::Delete,
         line: 2,
     };
-    becomes(rt, heap, at, &reference(axis, 1), &reference(axis, 1))?;
+    becomes(rt, at, &reference(axis, 1), &reference(axis, 1))?;
     // Outside the sheet too.
-    becomes(rt, heap, at, &reference(axis, 2), &[2, 0, 0, 0, 0])?;
-    becomes(rt, heap, at, &reference(axis, 3), &reference(axis, 2))?;
+    becomes(rt, at, &reference(axis, 2), &[2, 0, 0, 0, 0])?;
+    becomes(rt, at, &reference(axis, 3), &reference(axis, 2))?;
     // Lost stays lost.
-    becomes(rt, heap, at, &[2, 0, 0, 0, 0], &[2, 0, 0, 0, 0])?;
-    becomes(rt, heap, at, &total(axis, 2, 1), &[6, 0, 0, 0, 0])?;
+    becomes(rt, at, &[2, 0, 0, 0, 0], &[2, 0, 0, 0, 0])?;
+    becomes(rt, at, &total(axis, 2, 1), &[6, 0, 0, 0, 0])?;
     // Its last.
-    becomes(rt, heap, at, &total(axis, 1, 2), &total(axis, 1, 1))?;
+    becomes(rt, at, &total(axis, 1, 2), &total(axis, 1, 1))?;
     // Its first.
-    becomes(rt, heap, at, &total(axis, 2, 2), &total(axis, 2, 1))?;
-    becomes(rt, heap, at, &total(axis, 0, 2), &total(axis, 0, 2))?;
-    becomes(rt, heap, at, &total(axis, 3, 1), &total(axis, 2, 1))?;
+    becomes(rt, at, &total(axis, 2, 2), &total(axis, 2, 1))?;
+    becomes(rt, at, &total(axis, 0, 2), &total(axis, 0, 2))?;
+    becomes(rt, at, &total(axis, 3, 1), &total(axis, 2, 1))?;
     // No line of it.
-    becomes(rt, heap, at, &total(axis, 2, 0), &total(axis, 2, 0))
+    becomes(rt, at, &total(axis, 2, 0), &total(axis, 2, 0))
 }
 
 #[test]
 fn references_and_ranges(rt: HostRuntime) -> Result<(), Fail> {
-    let heap = rt.alloc();
-    inserting(&rt, heap, Axis::Row)?;
-    inserting(&rt, heap, Axis::Column)?;
-    deleting(&rt, heap, Axis::Row)?;
-    deleting(&rt, heap, Axis::Column)
+    inserting(&rt, Axis::Row)?;
+    inserting(&rt, Axis::Column)?;
+    deleting(&rt, Axis::Row)?;
+    deleting(&rt, Axis::Column)
 }
 
 // The number in the cell of a row and a column, so that each can be told from the others.
@@ -179,9 +167,7 @@ fn marked(heap: Global, size: Size) -> Result<Vec<u64>, AllocError> {
             add_cell(&mut sheet, &[0, mark(row, col), 0, 0, 0])?;
         }
     }
-    for _ in sheet.len()..MEMORY {
-        sheet.push(BEHIND)?;
-    }
+    sheet.resize(MEMORY, BEHIND)?;
     Ok(sheet)
 }
 
@@ -215,20 +201,10 @@ fn marks_at(
 }
 
 // From one number on up to another all are the same.
-fn same_from(
-    rt: &impl Abort,
-    sheet: &[u64],
-    from: usize,
-    to: usize,
-    number: u64,
-) -> Result<(), Fail> {
-    for i in from..to {
-        match sheet.get(i) {
-            Some(n) => assert_eq!(rt; *n, number),
-            None => return Err(Fail::new("the memory is too short")),
-        }
-    }
-    Ok(())
+fn all_are(sheet: &[u64], from: usize, to: usize, number: u64) -> bool {
+    sheet
+        .get(from..to)
+        .is_some_and(|part| part.iter().all(|n| *n == number))
 }
 
 fn length_of(rows: u64, cols: u64) -> usize {
@@ -239,13 +215,12 @@ fn length_of(rows: u64, cols: u64) -> usize {
 
 // Each cell is where it should be, what came free is 0, and what lies behind is as it was.
 fn arrives(
-    rt: &impl Abort,
-    heap: Global,
+    rt: &(impl Abort + AllocGlobal),
     size: Size,
     shift: Shift,
     after: Size,
 ) -> Result<(), Fail> {
-    let mut memory = marked(heap, size)?;
+    let mut memory = marked(rt.alloc(), size)?;
     assert!(rt; shift_sheet(memory.as_mut_slice(), shift, LARGEST).is_ok());
     let sheet = memory.as_slice();
     assert!(rt; sheet.len() == MEMORY && sheet[0] == after.rows && sheet[1] == after.cols);
@@ -256,26 +231,25 @@ fn arrives(
     }
     let left = length_of(after.rows, after.cols);
     let end = left.max(length_of(size.rows, size.cols));
-    same_from(rt, sheet, left, end, 0)?;
-    same_from(rt, sheet, end, MEMORY, BEHIND)
+    assert!(rt; all_are(sheet, left, end, 0));
+    assert!(rt; all_are(sheet, end, MEMORY, BEHIND));
+    Ok(())
 }
 
 fn at_edges(
-    rt: &impl Abort,
-    heap: Global,
+    rt: &(impl Abort + AllocGlobal),
     size: Size,
     shift: Shift,
     last: u64,
     after: Size,
 ) -> Result<(), Fail> {
     // Line 0.
-    arrives(rt, heap, size, Shift { line: 0, ..shift }, after)?;
+    arrives(rt, size, Shift { line: 0, ..shift }, after)?;
     // Line 3.
-    arrives(rt, heap, size, Shift { line: 3, ..shift }, after)?;
+    arrives(rt, size, Shift { line: 3, ..shift }, after)?;
     // The last line.
     arrives(
         rt,
-        heap,
         size,
         Shift {
             line: last,
@@ -287,70 +261,44 @@ fn at_edges(
 
 #[test]
 fn lines_inserted(rt: HostRuntime) -> Result<(), Fail> {
-    let heap = rt.alloc();
     let size = Size { rows: 39, cols: 11 };
-    at_edges(&rt, heap, size, INSERT_ROW, 39, Size { rows: 40, cols: 11 })?;
-    at_edges(
-        &rt,
-        heap,
-        size,
-        INSERT_COLUMN,
-        11,
-        Size { rows: 39, cols: 12 },
-    )
+    at_edges(&rt, size, INSERT_ROW, 39, Size { rows: 40, cols: 11 })?;
+    at_edges(&rt, size, INSERT_COLUMN, 11, Size { rows: 39, cols: 12 })
 }
 
 #[test]
 fn lines_deleted_from_the_largest_sheet(rt: HostRuntime) -> Result<(), Fail> {
-    let heap = rt.alloc();
-    at_edges(
-        &rt,
-        heap,
-        LARGEST,
-        DELETE_ROW,
-        39,
-        Size { rows: 39, cols: 12 },
-    )?;
-    at_edges(
-        &rt,
-        heap,
-        LARGEST,
-        DELETE_COLUMN,
-        11,
-        Size { rows: 40, cols: 11 },
-    )
+    at_edges(&rt, LARGEST, DELETE_ROW, 39, Size { rows: 39, cols: 12 })?;
+    at_edges(&rt, LARGEST, DELETE_COLUMN, 11, Size { rows: 40, cols: 11 })
 }
 
 // The number of the refusal, and nothing has changed.
 fn refuses(
-    rt: &impl Abort,
-    heap: Global,
+    rt: &(impl Abort + AllocGlobal),
     size: Size,
     shift: Shift,
     most: Size,
     number: u64,
 ) -> Result<(), Fail> {
-    let mut sheet = marked(heap, size)?;
-    let before = marked(heap, size)?;
-    match shift_sheet(sheet.as_mut_slice(), shift, most) {
-        Ok(()) => return Err(Fail::new("not refused")),
-        Err(refusal) => assert_eq!(rt; refusal.number(), number),
-    }
+    let mut sheet = marked(rt.alloc(), size)?;
+    let before = marked(rt.alloc(), size)?;
+    let Err(refusal) = shift_sheet(sheet.as_mut_slice(), shift, most) else {
+        return Err(Fail::new("not refused"));
+    };
+    assert_eq!(rt; refusal.number(), number);
     assert_eq!(rt; sheet.as_slice(), before.as_slice());
     Ok(())
 }
 
 #[test]
 fn refusals(rt: HostRuntime) -> Result<(), Fail> {
-    let heap = rt.alloc();
     let small = Size { rows: 2, cols: 1 };
     // As many rows as there may be.
-    refuses(&rt, heap, LARGEST, INSERT_ROW, LARGEST, 8)?;
-    refuses(&rt, heap, LARGEST, INSERT_COLUMN, LARGEST, 8)?;
+    refuses(&rt, LARGEST, INSERT_ROW, LARGEST, 8)?;
+    refuses(&rt, LARGEST, INSERT_COLUMN, LARGEST, 8)?;
     // 7 comes before 8.
     refuses(
         &rt,
-        heap,
         LARGEST,
         Shift {
             line: 41,
@@ -361,7 +309,6 @@ fn refusals(rt: HostRuntime) -> Result<(), Fail> {
     )?;
     refuses(
         &rt,
-        heap,
         small,
         Shift {
             line: 2,
@@ -372,7 +319,6 @@ fn refusals(rt: HostRuntime) -> Result<(), Fail> {
     )?;
     refuses(
         &rt,
-        heap,
         small,
         Shift {
             line: u64::MAX,
@@ -382,11 +328,10 @@ fn refusals(rt: HostRuntime) -> Result<(), Fail> {
         7,
     )?;
     // The only column.
-    refuses(&rt, heap, small, DELETE_COLUMN, LARGEST, 9)?;
+    refuses(&rt, small, DELETE_COLUMN, LARGEST, 9)?;
     // 7 comes before 9.
     refuses(
         &rt,
-        heap,
         small,
         Shift {
             line: 1,
@@ -396,10 +341,10 @@ fn refusals(rt: HostRuntime) -> Result<(), Fail> {
         7,
     )?;
     // The opening's bound.
-    refuses(&rt, heap, small, INSERT_ROW, small, 8)?;
+    refuses(&rt, small, INSERT_ROW, small, 8)?;
     // More rows than there may be.
-    refuses(&rt, heap, small, INSERT_ROW, Size { rows: 1, cols: 1 }, 1)?;
-    refuses(&rt, heap, small, INSERT_ROW, Size { rows: 41, cols: 12 }, 1)
+    refuses(&rt, small, INSERT_ROW, Size { rows: 1, cols: 1 }, 1)?;
+    refuses(&rt, small, INSERT_ROW, Size { rows: 41, cols: 12 }, 1)
 }
 
 // Two lines of prices and their total.

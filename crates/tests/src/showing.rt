@@ -1,7 +1,7 @@
 // Whole sheets: cycles of every length, and the largest sheets in the worst order.
-use crate::sheets::{add_cell, new_sheet};
 use notation::parse_numbers;
 use recalc::show_sheet;
+use samples::{add_cell, new_sheet};
 use std::alloc::AllocError;
 use std::process::Abort;
 use std::test::*;
@@ -19,17 +19,12 @@ fn add_successor(sheet: &mut Vec<u64>, k: usize) -> Result<(), AllocError> {
 
 fn shows(rt: &impl Abort, sheet: &[u64], expected: &[u64]) -> Result<(), Fail> {
     let mut out = [7; 2 * CELLS];
-    match show_sheet(sheet, &mut out) {
-        Ok(()) => {}
-        Err(_) => return Err(Fail::new("refused")),
-    }
-    for i in 0..2 * CELLS {
-        let want = match expected.get(i) {
-            Some(n) => *n,
-            None => 7,
-        };
-        assert_eq!(rt; out[i], want);
-    }
+    assert!(rt; show_sheet(sheet, &mut out).is_ok());
+    let Some((shown, behind)) = out.split_at_checked(expected.len()) else {
+        return Err(Fail::new("more than there is"));
+    };
+    assert_eq!(rt; shown, expected);
+    assert!(rt; behind.iter().all(|n| *n == 7));
     Ok(())
 }
 
@@ -66,8 +61,7 @@ fn a_cycle_of_all_cells(rt: HostRuntime) -> Result<(), Fail> {
     let mut expected = Vec::new(heap);
     for k in 0..CELLS {
         add_successor(&mut sheet, (k + 1) % CELLS)?;
-        expected.push(2)?;
-        expected.push(4)?;
+        expected.extend_from_slice(&CYCLE)?;
     }
     shows(&rt, sheet.as_slice(), expected.as_slice())
 }
@@ -80,8 +74,7 @@ fn a_chain_of_all_cells(rt: HostRuntime) -> Result<(), Fail> {
     let mut expected = Vec::new(heap);
     for k in 0..CELLS {
         add_successor(&mut sheet, k + 1)?;
-        expected.push(1)?;
-        expected.push((CELLS - k) as u64)?;
+        expected.extend_from_slice(&[1, (CELLS - k) as u64])?;
     }
     shows(&rt, sheet.as_slice(), expected.as_slice())
 }
@@ -99,8 +92,7 @@ fn a_sheet_full_of_totals(rt: HostRuntime) -> Result<(), Fail> {
             &mut sheet,
             &[9, 0, 0, 0, 0, 0, 1, 0, 0, 0, 3, below, 40, col, 1],
         )?;
-        expected.push(1)?;
-        expected.push(1 << (39 - k / 12))?;
+        expected.extend_from_slice(&[1, 1 << (39 - k / 12)])?;
     }
     shows(&rt, sheet.as_slice(), expected.as_slice())
 }
