@@ -40,6 +40,7 @@ impl Room {
         ensures written { k < n → flag self.new.cells.dirty.items k ≡ true }
     {
         self.cells.clear();
+        // By number, by which both the value and the mark are told.
         for i in 0..n {
             self.cells.add(value_at(values, i), i == k);
         }

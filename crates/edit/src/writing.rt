@@ -14,7 +14,7 @@ use crate::room::Room;
 use crate::write::Write;
 use recalc::{LentSheet, Refusal, show_sheet};
 
-// A write that is not refused.
+// A write that is not refused. What is lent stays apart: a struct that held it by `&mut` would have to say at each step that it is still the same.
 fn write_inside(
     nums: &mut [u64],
     values: &mut [u64],

@@ -203,6 +203,7 @@ impl<const N: usize> Recalculation<N> {
         ensures before { self.new.before.items ≡ self.old.before.items }
         ensures updated { Updated (change (F.language formulas.now) self.old.before.items written) self.new.table.items self.new.dirty.items }
     {
+        // By number, since the lists change under the loop.
         for k in 0..self.before.len() {
             self.visit(formulas, k);
         }

@@ -52,7 +52,7 @@ pub fn number_at(nums: &[u64], index: usize) -> u64
 fn is_within(n: u64, most: u64) -> bool
     ensures { result ≡ within most n }
 {
-    1 <= n && n <= most
+    (1..=most).contains(&n)
 }
 
 // The size of a sheet, or the first refusal that applies to it.
