@@ -6,6 +6,7 @@ use Rattle.evaluate.specs.declared.value.Value.{Value}
 use Rattle.recalc.specs.declared.formulas.Progress.{Progress}
 use Rattle.recalc.specs.declared.formulas.Progress.TheVariants.{Waiting, Open, Known}
 use Rattle.recalc.specs.Language.{Leads, one, more}
+use Rattle.recalc.proofs.Cycles.{leads_on}
 use Rattle.recalc.specs.Table.{at, Right, Has, Top}
 use Rattle.recalc.proofs.Table.{by_entry, waiting_less, waiting_known, open_not}
 use Rattle.recalc.specs.Change.{flag, Change, Dirty, Decided, Good, Kept, weight, load, unmarked_one, unmarked}
@@ -21,10 +22,6 @@ unfolding unmarked
 unmarked_set [] k l = omega arith
 unmarked_set (b ∷ w) zero l = omega arith
 unmarked_set (b ∷ w) (suc k) l = omega (arith, unmarked_set w k (omega arith))
-
-pub leads_on : {looks : ℕ → ℕ → Type 0} {a b c : ℕ} → Leads looks a b → looks b c → Leads looks a c
-leads_on (one h) k = more h (one k)
-leads_on (more h p) k = more h (leads_on p k)
 
 never : {A : Type 0} (i : ℕ) (c : Value) → Open i ≡ Known c → A
 never i c e = absurd (let z : ◌≡◌ {A = ℕ} 0 1 = cc in omega arith)
