@@ -4,7 +4,7 @@ ghost use Rattle.recalc.specs.Layout.{checked};
 ghost use Rattle.recalc.specs.Sheets.{sheet_in};
 ghost use Rattle.recalc.specs.Showing.{ShownIn};
 
-use edit::{Changes, Content, Room, Write, write_cell};
+use edit::{Changes, Room, Write, write_cell};
 use formula::{Cell, CellRef};
 use recalc::{HEADER_LEN, Refusal, show_sheet};
 
@@ -32,7 +32,7 @@ fn write_turns(
         let tokens = [0, turn % 2, 0, 0, 0];
         let write = Write {
             place: CellRef { row: 0, col: 0 },
-            content: Content::Formula(&tokens),
+            formula: Some(&tokens),
         };
         let _ = write_cell(nums, values, write, room, changes);
         seen = seen.wrapping_add(number_at(values, last));

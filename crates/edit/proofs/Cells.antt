@@ -19,8 +19,7 @@ use Rattle.recalc.proofs.Entries.{part_front}
 use Rattle.recalc.proofs.Malformed.{none_malformed, each_formed}
 use Rattle.recalc.specs.SheetLaws.{inside_is, number_inside}
 use Rattle.recalc.proofs.Numbered.{checked_sized, checked_formed, is_checked}
-use Rattle.edit.specs.declared.write.Content.{Content}
-use Rattle.edit.specs.declared.write.Content.TheVariants as the
+use denote.Ref.{Bor}
 use Rattle.edit.specs.Writes.{Write, target, written, asked}
 use Rattle.edit.specs.Memory.{cell_stored, with_cell, written_memory}
 use Rattle.edit.proofs.Recalculated.{sheet_now}
@@ -49,9 +48,9 @@ formula_storable ts f e =
     }
 
 -- so is whatever may be asked for
-pub asked_storable : (c : Content) (x : Option Formula) → asked c ≡ Some x → Storable x
-asked_storable the.Blank x e = let z : None ≡ x = cc in subst Storable z (record { long = refl; reads = refl; formed = refl })
-asked_storable (the.Formula ts) x e = go (spelled ts.now) refl e
+pub asked_storable : (c : Option (Bor (List ℕ))) (x : Option Formula) → asked c ≡ Some x → Storable x
+asked_storable None x e = let z : None ≡ x = cc in subst Storable z (record { long = refl; reads = refl; formed = refl })
+asked_storable (Some ts) x e = go (spelled ts.now) refl e
   where
     go : (o : Option Formula) → spelled ts.now ≡ o → option_map Some o ≡ Some x → Storable x
     go None s e = absurd (let z : ◌≡◌ {A = ℕ} 0 1 = cc in omega arith)

@@ -1,18 +1,16 @@
 -- A write that is not refused: its numbers, and what is known after each step of it. Assumes nothing.
-use Rattle.std.proofs.Common.{◌≡◌, ℕ, ◌+◌, ◌*◌, ◌<◌, ◌≤◌, Bool, true, false, cond, ◌&&◌, List, ◌++◌, length, take, drop, set, replicate, is_some, is_ok, Some, None, Ok, Err, Option, Result, sym, refl, ap, ◌∙◌, subst, arith, length-append}
-use Rattle.std.proofs.lemmas.Bool.{cond-true}
+use Rattle.std.proofs.Common.{◌≡◌, ℕ, ◌+◌, ◌*◌, ◌<◌, ◌≤◌, Bool, true, false, cond, ◌&&◌, List, ◌++◌, length, drop, is_some, is_ok, Some, None, Ok, Err, Option, Result, sym, refl, ap, ◌∙◌, subst, arith, length-append}
 use Rattle.formula.specs.Layout.{cell_len}
 use Rattle.formula.specs.Formula.{Formula}
 use Rattle.formula.specs.Tokens.{the_ref}
 use Rattle.formula.specs.declared.token.CellRef.{CellRef}
 use Rattle.evaluate.specs.declared.value.Value.{Value}
 use Rattle.evaluate.specs.Limits.{max_cells}
-use Rattle.recalc.specs.declared.size.Size.{Size}
 use Rattle.recalc.specs.declared.refusal.Refusal.TheVariants.{Outside}
 use Rattle.recalc.specs.declared.formulas.Progress.{Progress}
-use Rattle.recalc.specs.Layout.{cols_in, sheet_len, size_in, checked, Sized}
+use Rattle.recalc.specs.Layout.{cols_in, sheet_len, size_in, checked}
 use Rattle.recalc.specs.Sheets.{Sheet, inside, held, Same, sheet_in}
-use Rattle.recalc.specs.Numbered.{count, nth_cell, sheet_language, readable}
+use Rattle.recalc.specs.Numbered.{count, nth_cell, sheet_language}
 use Rattle.recalc.specs.Change.{shows, flag, change, Updated}
 use Rattle.recalc.specs.Showing.{nth_shown, values_from, sheet_values, ShownIn, table_shows}
 use Rattle.recalc.proofs.Rows.{values_length, same_values}
@@ -24,7 +22,6 @@ use Rattle.edit.specs.Places.{places_from}
 use Rattle.edit.specs.Values.{value_at, table_differs, formula_marked}
 use Rattle.edit.specs.Memory.{cell_stored, with_cell, written_memory, Wrote}
 use Rattle.edit.proofs.Rows.{value_there, row_shown}
-use Rattle.edit.proofs.Updated.{mark_there, mark_only}
 use Rattle.edit.proofs.Recalculated.{Noted, sheet_now, same, changed_told, marked_worked, values_shown}
 use Rattle.edit.proofs.Cells.{Storable, asked_storable, cells_now, sheet_is, holds_written, stays_formed}
 
@@ -33,20 +30,20 @@ pub record Allowed (w : code.Write) (s : Sheet) (v : Write) : Type 0 where
   pub row : v.row ≡ w.place.row
   pub col : v.col ≡ w.place.col
   pub within : inside s v.row v.col ≡ true
-  pub what : asked w.content ≡ Some v.what
+  pub what : asked w.formula ≡ Some v.what
 
 -- its place is inside, and its tokens are a formula
 pub allowed_is : (w : code.Write) (s : Sheet) (v : Write) → allowed w s ≡ Ok v → Allowed w s v
-allowed_is w s v e = go (asked w.content) refl e
+allowed_is w s v e = go (asked w.formula) refl e
   where
-    there : (x : Option Formula) (b : Bool) → asked w.content ≡ Some x → inside s w.place.row w.place.col ≡ b
+    there : (x : Option Formula) (b : Bool) → asked w.formula ≡ Some x → inside s w.place.row w.place.col ≡ b
         → cond b (Ok (record { row = w.place.row; col = w.place.col; what = x })) (Err Outside) ≡ Ok v → Allowed w s v
     there x true d i e =
         let z : record { row = w.place.row; col = w.place.col; what = x } ≡ v = cc in
         subst (Allowed w s) z (record { row = refl; col = refl; within = i; what = d })
     there x false d i e = absurd (let z : ◌≡◌ {A = ℕ} 0 1 = cc in omega arith)
 
-    go : (o : Option (Option Formula)) → asked w.content ≡ o → put_inside s w.place.row w.place.col o ≡ Ok v → Allowed w s v
+    go : (o : Option (Option Formula)) → asked w.formula ≡ o → put_inside s w.place.row w.place.col o ≡ Ok v → Allowed w s v
     go None d e = absurd (let z : ◌≡◌ {A = ℕ} 0 1 = cc in omega arith)
     go (Some x) d e = there x (inside s w.place.row w.place.col) d refl e
 
@@ -55,64 +52,50 @@ pub ok_is : {A E : Type 0} (r : Result A E) → is_ok r ≡ true → (v : A) × 
 ok_is (Ok v) e = (v, refl)
 ok_is (Err x) e = absurd (grind arith)
 
-module _ (w : code.Write) (xs vs : List ℕ) (size : Size) (ok : is_ok (checked xs) ≡ true) (e : size ≡ size_in xs) where
-  -- how many cells the code counts, and the number that it works out
+-- cell number k is to be written
+module _ (w : code.Write) (xs vs : List ℕ) (k : ℕ) (ok : is_ok (checked xs) ≡ true) (e : k ≡ w.place.row * cols_in xs + w.place.col) where
+  -- how many cells there are
   abbrev cell_count : ℕ
-  cell_count = size.rows * size.cols
+  cell_count = count (sheet_in xs)
 
-  abbrev cell_number : ℕ
-  cell_number = w.place.row * size.cols + w.place.col
-
-  -- they are those of the sheet
-  count_is : cell_count ≡ count (sheet_in xs)
-  count_is = ap (λ (z : Size). z.rows * z.cols) e
-
-  -- and it is that of the written place
-  number_is : (v : Write) → Allowed w (sheet_in xs) v → cell_number ≡ v.row * cols_in xs + v.col
-  number_is v a =
-      ap (λ (z : Size). w.place.row * z.cols + w.place.col) e
-      ∙ ap (λ r. r * cols_in xs + w.place.col) (sym a.row) ∙ ap (λ c. v.row * cols_in xs + c) (sym a.col)
+  -- k is the number of the written place
+  number_is : (v : Write) → Allowed w (sheet_in xs) v → k ≡ v.row * cols_in xs + v.col
+  number_is v a = e ∙ ap (λ r. r * cols_in xs + w.place.col) (sym a.row) ∙ ap (λ c. v.row * cols_in xs + c) (sym a.col)
 
   -- there are few cells
   pub few : cell_count ≤ max_cells
-  few = few_cells xs size (subst (Sized xs) (sym e) (checked_sized xs ok))
-
-  -- and some columns
-  pub some_columns : 0 < size.cols
-  some_columns = let s = (subst (Sized xs) (sym e) (checked_sized xs ok)).some_cols in omega arith
+  few = few_cells xs (size_in xs) (checked_sized xs ok)
 
   -- the row has room for their values
   pub values_room : ShownIn (sheet_in xs) vs → 2 * cell_count ≤ length vs
   values_room shown =
-      let n = count_is in
       let l = values_length (nth_shown (sheet_in xs)) 0 (count (sheet_in xs)) in
       let m = ap length shown ∙ length-append (sheet_values (sheet_in xs)) (drop (2 * count (sheet_in xs)) vs) in
       omega arith
 
   -- the cell is one of them
-  pub number_small : is_ok (allowed w (sheet_in xs)) ≡ true → cell_number < cell_count
+  pub number_small : is_ok (allowed w (sheet_in xs)) ≡ true → k < cell_count
   number_small al =
       let v = ok_is (allowed w (sheet_in xs)) al in
       let a = allowed_is w (sheet_in xs) v.0 v.1 in
       let l = number_inside (sheet_in xs) (the_ref v.0.row v.0.col) a.within in
-      let k = number_is v.0 a in
-      let n = count_is in
+      let n = number_is v.0 a in
       omega arith
 
   -- and lies in the memory as a whole
-  pub cell_room : is_ok (allowed w (sheet_in xs)) ≡ true → sheet_len cell_number + cell_len ≤ length xs
-  cell_room al = let l = number_small al in let n = count_is in let r = (checked_sized xs ok).room in omega arith
+  pub cell_room : is_ok (allowed w (sheet_in xs)) ≡ true → sheet_len k + cell_len ≤ length xs
+  cell_room al = let l = number_small al in let r = (checked_sized xs ok).room in omega arith
 
   -- after the cell is overwritten
   module _ (v : Write) (a : Allowed w (sheet_in xs) v) (ys : List ℕ)
-      (put : (x : Option Formula) → asked w.content ≡ Some x → ys ≡ with_cell cell_number (cell_stored x) xs) where
+      (put : (x : Option Formula) → asked w.formula ≡ Some x → ys ≡ with_cell k (cell_stored x) xs) where
     -- the memory is the written one
     memory_is : ys ≡ written_memory v xs
     memory_is = put v.what a.what ∙ ap (λ i. with_cell i (cell_stored v.what) xs) (number_is v a)
 
     -- what was asked for is read back
     storable : Storable v.what
-    storable = asked_storable w.content v.what a.what
+    storable = asked_storable w.formula v.what a.what
 
     -- the sheet is not refused
     formed_now : checked ys ≡ Ok (size_in xs)
@@ -133,64 +116,67 @@ module _ (w : code.Write) (xs vs : List ℕ) (size : Size) (ok : is_ok (checked 
     sheet_now_is : sheet_in ys ≡ now
     sheet_now_is = ap sheet_in memory_is ∙ sheet_is v xs ok a.within storable
 
-    -- which the engine reads
-    readable_is : readable ys ≡ now
-    readable_is = cond-true (is_ok (checked ys)) (sheet_in ys) _ (ap is_ok formed_now) ∙ sheet_now_is
+    -- it is not refused
+    pub still_ok : is_ok (checked ys) ≡ true
+    still_ok = ap is_ok formed_now
 
-    -- it has as many cells as before
-    pub count_now : cell_count ≡ count (readable ys)
-    count_now = count_is ∙ sym (ap count readable_is)
+    -- and has as many cells and columns as before
+    pub count_now : cell_count ≡ count (sheet_in ys)
+    count_now = sym (ap count sheet_now_is)
 
-    -- after what the cells showed was read, and the cell marked
-    module _ (shown : ShownIn (sheet_in xs) vs) (bs : List Value) (read : (i : ℕ) → i < cell_count → shows (take cell_count bs) i ≡ value_at vs i) where
+    pub cols_now : cols_in ys ≡ cols_in xs
+    cols_now = ap (λ (x : Sheet). x.cols) sheet_now_is
+
+    -- after what the cells showed was read
+    module _ (shown : ShownIn (sheet_in xs) vs) (bs : List Value) (read : (i : ℕ) → i < cell_count → shows bs i ≡ value_at vs i) where
       -- what was read is what the cells showed
-      was : (i : ℕ) → i < count (sheet_in xs) → shows (take cell_count bs) i ≡ nth_shown (sheet_in xs) i
-      was i l = let n = count_is in read i (omega arith) ∙ value_there (nth_shown (sheet_in xs)) (count (sheet_in xs)) vs _ shown i l
+      was : (i : ℕ) → i < cell_count → shows bs i ≡ nth_shown (sheet_in xs) i
+      was i l = read i l ∙ value_there (nth_shown (sheet_in xs)) cell_count vs _ shown i l
 
       -- and what the row begins with
-      pub values_read : vs ≡ values_from (shows (take cell_count bs)) 0 cell_count ++ drop (2 * cell_count) vs
+      pub values_read : vs ≡ values_from (shows bs) 0 cell_count ++ drop (2 * cell_count) vs
       values_read =
           shown
-          ∙ ap (λ zs. zs ++ drop (2 * count (sheet_in xs)) vs)
-          (same_values (nth_shown (sheet_in xs)) (shows (take cell_count bs)) 0 (count (sheet_in xs)) (λ i l u. sym (was i (omega arith))))
-          ∙ ap (λ n. values_from (shows (take cell_count bs)) 0 n ++ drop (2 * n) vs) (sym count_is)
+          ∙ ap (λ zs. zs ++ drop (2 * cell_count) vs)
+          (same_values (nth_shown (sheet_in xs)) (shows bs) 0 cell_count (λ i l u. sym (was i (omega arith))))
 
-      module _ (small : cell_number < cell_count) (ms : List Bool) (mark : ms ≡ set (replicate max_cells false) cell_number true) where
-        -- so the engine is told what was shown and what was written
-        noted : Noted v (sheet_in xs) (take cell_count bs) (take cell_count ms)
+      -- where the written cell alone is marked
+      module _ (ms : List Bool) (only : (i : ℕ) → flag ms i ≡ true → i ≡ k) (mark : flag ms k ≡ true) where
+        -- the engine is told what was shown and what was written
+        noted : Noted v (sheet_in xs) bs ms
         noted =
             record {
               was = was;
-              at_most = λ i h. mark_only cell_number cell_count small few i (ap (λ y. flag (take cell_count y) i) (sym mark) ∙ h) ∙ number_is v a;
-              at_least = ap (flag (take cell_count ms)) (sym (number_is v a)) ∙ ap (λ y. flag (take cell_count y) cell_number) mark ∙ mark_there cell_number cell_count small few;
+              at_most = λ i h. only i h ∙ number_is v a;
+              at_least = ap (flag ms) (sym (number_is v a)) ∙ mark;
               within = a.within;
             }
 
         -- after the update
-        module _ (t : List Progress) (d : List Bool) (up : Updated (change (sheet_language (readable ys)) (take cell_count bs) (take cell_count ms)) t d) where
-          updated : Updated (change (sheet_language now) (take cell_count bs) (take cell_count ms)) t d
-          updated = subst (λ x. Updated (change (sheet_language x) (take cell_count bs) (take cell_count ms)) t d) readable_is up
+        module _ (t : List Progress) (d : List Bool) (up : Updated (change (sheet_language (sheet_in ys)) bs ms) t d) where
+          updated : Updated (change (sheet_language now) bs ms) t d
+          updated = subst (λ x. Updated (change (sheet_language x) bs ms) t d) sheet_now_is up
 
-          marked : (k : ℕ) → k < count (sheet_in xs) → formula_marked ys d k ≡ (flag d k && is_some (nth_cell now k))
-          marked k l = ap (λ o. flag d k && is_some o) (sym (nth_is ys k (subst (λ x. k < count x) (sym sheet_now_is) l)) ∙ ap (λ x. nth_cell x k) sheet_now_is)
+          marked : (i : ℕ) → i < cell_count → formula_marked ys d i ≡ (flag d i && is_some (nth_cell now i))
+          marked i l = ap (λ o. flag d i && is_some o) (sym (nth_is ys i (subst (λ x. i < count x) (sym sheet_now_is) l)) ∙ ap (λ x. nth_cell x i) sheet_now_is)
 
           pub wrote : (us : List ℕ) (cs rs cs₀ rs₀ : List CellRef) → us ≡ values_from (table_shows t) 0 cell_count ++ drop (2 * cell_count) vs
-              → cs ≡ places_from size.cols (table_differs t (take cell_count bs)) 0 cell_count → rs ≡ places_from size.cols (formula_marked ys d) 0 cell_count
+              → cs ≡ places_from (cols_in ys) (table_differs t bs) 0 cell_count → rs ≡ places_from (cols_in ys) (formula_marked ys d) 0 cell_count
               → Wrote v (record { nums = xs; values = vs; changed = cs₀; recalculated = rs₀ }) (record { nums = ys; values = us; changed = cs; recalculated = rs })
           wrote us cs rs cs₀ rs₀ values changed recalculated =
               let s = sheet_in xs in
-              let told = changed_told v s cells holds (take cell_count bs) (take cell_count ms) noted t d updated in
-              let worked = marked_worked v s cells holds (take cell_count bs) (take cell_count ms) noted t d updated (formula_marked ys d) marked in
+              let told = changed_told v s cells holds bs ms noted t d updated in
+              let worked = marked_worked v s cells holds bs ms noted t d updated (formula_marked ys d) marked in
               let now_shown : values_from (table_shows t) 0 (count s) ≡ sheet_values (sheet_in ys) =
-              values_shown v s cells holds (take cell_count bs) (take cell_count ms) noted t d updated ∙ ap sheet_values (sym sheet_now_is) in
+              values_shown v s cells holds bs ms noted t d updated ∙ ap sheet_values (sym sheet_now_is) in
               let row : us ≡ sheet_values (sheet_in ys) ++ drop (2 * count s) vs =
-              values ∙ ap (λ n. values_from (table_shows t) 0 n ++ drop (2 * n) vs) count_is ∙ ap (λ zs. zs ++ drop (2 * count s) vs) now_shown in
+              values ∙ ap (λ zs. zs ++ drop (2 * count s) vs) now_shown in
               record {
                 memory = memory_is;
                 sheet = subst (λ x. Same x (written v s)) (sym sheet_now_is) (same v s cells holds);
                 formed = formed_now;
                 values = row;
                 shown = row_shown (sheet_in ys) vs us (row ∙ ap (λ x. sheet_values (sheet_in ys) ++ drop (2 * count x) vs) (sym sheet_now_is));
-                changed = changed ∙ ap (λ (z : Size). places_from z.cols (table_differs t (take cell_count bs)) 0 (z.rows * z.cols)) e ∙ told;
-                recalculated = recalculated ∙ ap (λ (z : Size). places_from z.cols (formula_marked ys d) 0 (z.rows * z.cols)) e ∙ worked;
+                changed = changed ∙ ap (λ w. places_from w (table_differs t bs) 0 cell_count) cols_now ∙ told;
+                recalculated = recalculated ∙ ap (λ w. places_from w (formula_marked ys d) 0 cell_count) cols_now ∙ worked;
               }

@@ -3,7 +3,7 @@ pub mod Differing
 pub mod Holding
 pub mod Stored
 pub mod Rows
-pub mod Updated
+pub mod Noting
 pub mod Recalculated
 pub mod Cells
 pub mod Inside

@@ -2,7 +2,6 @@ pub mod Writes
 pub mod Places
 pub mod Changes
 pub mod Values
-pub mod Rooms
 pub mod Memory
 pub mod States
 pub mod Laws

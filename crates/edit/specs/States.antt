@@ -4,4 +4,4 @@ use Rattle.edit.specs.declared.changes.Changes.{Changes}
 use Rattle.edit.specs.Memory.{State}
 
 abbrev pub state : List ℕ → List ℕ → Changes → State
-state xs vs x = record { nums = xs; values = vs; changed = vec_items x.changed; recalculated = vec_items x.recalculated }
+state xs vs x = record { nums = xs; values = vs; changed = vec_items x.changed.places; recalculated = vec_items x.recalculated.places }

@@ -1,13 +1,12 @@
 -- A write and the sheet after it; what the code asks for, and when that is refused. Assumes nothing: these are definitions.
-use Rattle.std.specs.Prelude.{ℕ, Bool, cond, ◌&&◌, Some, None, Ok, Err, Option, Result, ◌==◌}
+use Rattle.std.specs.Prelude.{ℕ, Bool, cond, ◌&&◌, Some, None, Ok, Err, List, Option, Result, ◌==◌}
+use denote.Ref.{Bor}
 use Rattle.std.specs.Option.{option_map}
 use Rattle.formula.specs.Formula as formula
 use Rattle.formula.specs.Reading.{spelled}
 use Rattle.recalc.specs.declared.refusal.Refusal.{Refusal}
 use Rattle.recalc.specs.declared.refusal.Refusal.TheVariants.{Malformed, Outside}
 use Rattle.recalc.specs.Sheets.{Sheet, inside}
-use Rattle.edit.specs.declared.write.Content.{Content}
-use Rattle.edit.specs.declared.write.Content.TheVariants.{Blank, Formula}
 use Rattle.edit.specs.declared.write.Write as code
 
 -- what comes to stand at a place; None is a blank
@@ -25,9 +24,9 @@ abbrev pub written : Write → Sheet → Sheet
 written w s = record { rows = s.rows; cols = s.cols; cells = λ r c. cond (target w r c && inside s r c) w.what (s.cells r c) }
 
 -- what is asked for: a cell, or None where the tokens are no formula
-abbrev pub asked : Content → Option (Option formula.Formula)
-asked Blank = Some None
-asked (Formula ts) = option_map Some (spelled ts.now)
+abbrev pub asked : Option (Bor (List ℕ)) → Option (Option formula.Formula)
+asked None = Some None
+asked (Some ts) = option_map Some (spelled ts.now)
 
 abbrev pub put_inside : Sheet → ℕ → ℕ → Option (Option formula.Formula) → Result Write Refusal
 put_inside s r c None = Err (Malformed 0)
@@ -35,7 +34,7 @@ put_inside s r c (Some x) = cond (inside s r c) (Ok (record { row = r; col = c; 
 
 -- the write that the code asks for, or the first refusal that applies
 abbrev pub allowed : code.Write → Sheet → Result Write Refusal
-allowed w s = put_inside s w.place.row w.place.col (asked w.content)
+allowed w s = put_inside s w.place.row w.place.col (asked w.formula)
 
 abbrev pub answered : Result Write Refusal → Result (Unit {0}) Refusal
 answered (Ok w) = Ok tt

@@ -1,25 +1,22 @@
 // What a write tells: the places that show something else, and those whose formulas were worked out again.
-ghost use Rattle.std.specs.Prelude.{◌≡◌, ◌<◌, ◌≤◌, [], ◌∷◌, ◌++◌, length, IfOk, vec_capacity};
-ghost use Rattle.evaluate.specs.Limits.{max_cells};
+ghost use Rattle.std.specs.Prelude.{◌≡◌, [], IfOk};
 
+use crate::place_list::PlaceList;
 use formula::CellRef;
-use recalc::MAX_CELLS;
 use std::alloc::{AllocError, Global};
 
-// Each list has room for every cell of the largest sheet, so that no write wants memory.
 #[derive(Drop)]
 pub struct Changes {
-    changed: Vec<CellRef>,
-    recalculated: Vec<CellRef>,
-    ghost room: { (max_cells ≤ vec_capacity changed) × (max_cells ≤ vec_capacity recalculated) },
+    pub(crate) changed: PlaceList,
+    pub(crate) recalculated: PlaceList,
 }
 
 impl Changes {
     pub fn new(heap: Global) -> Result<Changes, AllocError>
-        ensures { IfOk result (λ v. (v.changed.items ≡ []) × (v.recalculated.items ≡ [])) }
+        ensures { IfOk result (λ v. (v.changed.places.items ≡ []) × (v.recalculated.places.items ≡ [])) }
     {
-        let changed = Vec::with_capacity(heap, MAX_CELLS)?;
-        let recalculated = Vec::with_capacity(heap, MAX_CELLS)?;
+        let changed = PlaceList::new(heap)?;
+        let recalculated = PlaceList::new(heap)?;
         Ok(Changes {
             changed,
             recalculated,
@@ -28,38 +25,22 @@ impl Changes {
 
     // In reading order, as the next list.
     pub fn changed(&self) -> &[CellRef]
-        ensures { result.now ≡ self.now.changed.items }
+        ensures { result.now ≡ self.now.changed.places.items }
     {
         self.changed.as_slice()
     }
 
     pub fn recalculated(&self) -> &[CellRef]
-        ensures { result.now ≡ self.now.recalculated.items }
+        ensures { result.now ≡ self.now.recalculated.places.items }
     {
         self.recalculated.as_slice()
     }
 
     pub(crate) fn clear(&mut self)
-        ensures changed { self.new.changed.items ≡ [] }
-        ensures recalculated { self.new.recalculated.items ≡ [] }
+        ensures changed { self.new.changed.places.items ≡ [] }
+        ensures recalculated { self.new.recalculated.places.items ≡ [] }
     {
         self.changed.clear();
         self.recalculated.clear();
-    }
-
-    pub(crate) fn add_changed(&mut self, place: CellRef)
-        requires { length self.old.changed.items < max_cells }
-        ensures changed { self.new.changed.items ≡ self.old.changed.items ++ place ∷ [] }
-        ensures recalculated { self.new.recalculated.items ≡ self.old.recalculated.items }
-    {
-        let _ = self.changed.push(place);
-    }
-
-    pub(crate) fn add_recalculated(&mut self, place: CellRef)
-        requires { length self.old.recalculated.items < max_cells }
-        ensures changed { self.new.changed.items ≡ self.old.changed.items }
-        ensures recalculated { self.new.recalculated.items ≡ self.old.recalculated.items ++ place ∷ [] }
-    {
-        let _ = self.recalculated.push(place);
     }
 }

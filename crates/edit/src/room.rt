@@ -1,110 +1,77 @@
 // Room for a recalculation, lent to each write.
-ghost use Rattle.std.specs.Prelude.{◌≡◌, ℕ, ◌*◌, ◌<◌, ◌≤◌, true, false, ◌++◌, length, take, drop, replicate, slice_set};
+ghost use Rattle.std.specs.Prelude.{◌≡◌, ℕ, ◌*◌, ◌<◌, ◌≤◌, true, [], ◌++◌, length, drop};
 ghost use Rattle.evaluate.specs.Limits.{max_cells};
-ghost use Rattle.recalc.specs.Numbered.{count, readable};
-ghost use Rattle.recalc.specs.Change.{shows};
-ghost use Rattle.recalc.specs.Showing.{values_from};
-ghost use Rattle.edit.specs.Values.{value_at};
-ghost use Rattle.edit.specs.Rooms.{UpdatedIn, values_in, changed_in, recalculated_in};
+ghost use Rattle.recalc.specs.Sheets.{sheet_in};
+ghost use Rattle.recalc.specs.Numbered.{count, sheet_language};
+ghost use Rattle.recalc.specs.Change.{shows, flag, change, Updated};
+ghost use Rattle.recalc.specs.Layout.{cols_in};
+ghost use Rattle.recalc.specs.Showing.{values_from, table_shows};
+ghost use Rattle.edit.specs.Places.{places_from};
+ghost use Rattle.edit.specs.Values.{value_at, table_differs, formula_marked};
 
 use crate::changes::Changes;
 use crate::formulas::list_recalculated;
-use crate::values::{read_values, write_changes};
-use evaluate::Value;
-use recalc::{Lent, MAX_CELLS, Progress, recalculate};
+use crate::values::{value_at, write_changes};
+use recalc::{LentSheet, MAX_CELLS, Recalculation};
 
 // For the largest sheet, so that a write allocates nothing.
 #[derive(Drop)]
 pub struct Room {
-    // What the cells showed.
-    before: [Value; MAX_CELLS],
-    // The cell that was written.
-    written: [bool; MAX_CELLS],
-    // What they show.
-    table: [Progress; MAX_CELLS],
-    // What of that is what they showed.
-    kept: [Progress; MAX_CELLS],
-    // The cells that are worked out again.
-    dirty: [bool; MAX_CELLS],
-    stack: [usize; MAX_CELLS],
+    cells: Recalculation<MAX_CELLS>,
 }
 
 impl Room {
     // It does not matter what a room holds when it is lent.
-    pub fn new() -> Room {
+    pub fn new() -> Room
+        ensures { result.cells.before.items ≡ [] }
+    {
         Room {
-            before: [Value::Empty; MAX_CELLS],
-            written: [false; MAX_CELLS],
-            table: [Progress::Waiting; MAX_CELLS],
-            kept: [Progress::Waiting; MAX_CELLS],
-            dirty: [false; MAX_CELLS],
-            stack: [0; MAX_CELLS],
+            cells: Recalculation::new(),
         }
     }
 
-    // Notes what the first n cells show before a write.
-    pub(crate) fn note_before(&mut self, values: &[u64], n: usize)
+    // Notes what the first n cells show before a write of cell k.
+    pub(crate) fn note_before(&mut self, values: &[u64], n: usize, k: usize)
         requires few { n ≤ max_cells }
         requires room { 2 * n ≤ length values.now }
-        ensures { (k : ℕ) → k < n → shows (take n self.new.before) k ≡ value_at values.now k }
+        ensures count { length self.new.cells.before.items ≡ n }
+        ensures before { (i : ℕ) → i < n → shows self.new.cells.before.items i ≡ value_at values.now i }
+        ensures only { (i : ℕ) → flag self.new.cells.dirty.items i ≡ true → i ≡ k }
+        ensures written { k < n → flag self.new.cells.dirty.items k ≡ true }
     {
-        let before = &mut self.before[..];
-        read_values(values, &mut before[0..n]);
-    }
-
-    // Notes that cell k is the one that is written.
-    pub(crate) fn mark(&mut self, k: usize)
-        requires { k < max_cells }
-        ensures before { self.new.before ≡ self.old.before }
-        ensures written { self.new.written ≡ slice_set (replicate max_cells false) k true }
-    {
-        self.written.fill(false);
-        self.written[k] = true;
+        self.cells.clear();
+        // By number, by which both the value and the mark are told.
+        for i in 0..n {
+            self.cells.add(value_at(values, i), i == k);
+        }
     }
 
     // Works out what has to be after the write.
-    pub(crate) fn recalculate(&mut self, nums: &[u64], n: usize)
-        requires count { n ≡ count (readable nums.now) }
-        requires few { n ≤ max_cells }
-        ensures before { self.new.before ≡ self.old.before }
-        ensures updated { UpdatedIn n nums.now self.old self.new }
+    pub(crate) fn recalculate(&mut self, sheet: &LentSheet<'_>)
+        requires { length self.old.cells.before.items ≡ count (sheet_in sheet.now.nums.now) }
+        ensures before { self.new.cells.before.items ≡ self.old.cells.before.items }
+        ensures updated { Updated (change (sheet_language (sheet_in sheet.now.nums.now)) self.old.cells.before.items self.old.cells.dirty.items) self.new.cells.table.items self.new.cells.dirty.items }
     {
-        let before = &self.before[..n];
-        let written = &self.written[..n];
-        let table = &mut self.table[..];
-        let kept = &mut self.kept[..];
-        let dirty = &mut self.dirty[..];
-        recalculate(
-            &Lent,
-            nums,
-            before,
-            written,
-            &mut table[0..n],
-            &mut kept[0..n],
-            &mut dirty[0..n],
-            &mut self.stack,
-        );
+        self.cells.run(sheet);
     }
 
     // Brings the row of values up to date, and lists what changed and what was worked out again.
-    pub(crate) fn tell(
-        &self,
-        nums: &[u64],
-        n: usize,
-        cols: u64,
-        values: &mut [u64],
-        changes: &mut Changes,
-    )
-        requires cols { 0 < cols }
-        requires few { n ≤ max_cells }
-        requires room { 2 * n ≤ length values.old }
-        requires shown { values.old ≡ values_from (shows (take n self.now.before)) 0 n ++ drop (2 * n) values.old }
-        ensures values { values.new ≡ values_in n self.now ++ drop (2 * n) values.old }
-        ensures changed { changes.new.changed.items ≡ changed_in cols n self.now }
-        ensures recalculated { changes.new.recalculated.items ≡ recalculated_in cols n nums.now self.now }
+    pub(crate) fn tell(&self, sheet: &LentSheet<'_>, values: &mut [u64], changes: &mut Changes)
+        requires few { length self.now.cells.before.items ≤ max_cells }
+        requires room { 2 * length self.now.cells.before.items ≤ length values.old }
+        requires shown { values.old ≡ values_from (shows self.now.cells.before.items) 0 (length self.now.cells.before.items) ++ drop (2 * length self.now.cells.before.items) values.old }
+        ensures values { values.new ≡ values_from (table_shows self.now.cells.table.items) 0 (length self.now.cells.before.items) ++ drop (2 * length self.now.cells.before.items) values.old }
+        ensures changed { changes.new.changed.places.items ≡ places_from (cols_in sheet.now.nums.now) (table_differs self.now.cells.table.items self.now.cells.before.items) 0 (length self.now.cells.before.items) }
+        ensures recalculated { changes.new.recalculated.places.items ≡ places_from (cols_in sheet.now.nums.now) (formula_marked sheet.now.nums.now self.now.cells.dirty.items) 0 (length self.now.cells.before.items) }
     {
         changes.clear();
-        write_changes(&self.table[..n], &self.before[..n], cols, values, changes);
-        list_recalculated(nums, &self.dirty[..n], cols, changes);
+        write_changes(
+            sheet,
+            self.cells.table(),
+            self.cells.before(),
+            values,
+            &mut changes.changed,
+        );
+        list_recalculated(sheet, self.cells.dirty(), &mut changes.recalculated);
     }
 }

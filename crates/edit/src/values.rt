@@ -1,35 +1,26 @@
 // The row of what the cells show: read before a write, and overwritten where a cell shows something else after it.
-ghost use Rattle.std.specs.Prelude.{◌≡◌, ℕ, ◌+◌, ◌*◌, ◌<◌, ◌≤◌, [], ◌++◌, length, drop};
+ghost use Rattle.std.specs.Prelude.{◌≡◌, ◌+◌, ◌*◌, ◌≤◌, [], ◌++◌, length, drop};
 ghost use Rattle.formula.specs.Tokens.{the_ref};
 ghost use Rattle.evaluate.specs.Limits.{max_cells};
 ghost use Rattle.recalc.specs.Change.{shows};
+ghost use Rattle.recalc.specs.Layout.{cols_in};
 ghost use Rattle.recalc.specs.Entries.{by_number};
 ghost use Rattle.recalc.specs.Showing.{values_from, table_shows};
 ghost use Rattle.edit.specs.Places.{places_from};
 ghost use Rattle.edit.specs.Changes.{differs};
 ghost use Rattle.edit.specs.Values.{value_at, with_value, table_differs};
 
-use crate::changes::Changes;
+use crate::place_list::PlaceList;
 use evaluate::Value;
 use formula::CellRef;
-use recalc::{Progress, known_value};
+use recalc::{LentSheet, Progress};
 
 // The value of cell k.
-fn value_at(values: &[u64], k: usize) -> Value
+pub fn value_at(values: &[u64], k: usize) -> Value
     requires { 2 * k + 2 ≤ length values.now }
     ensures { result ≡ value_at values.now k }
 {
     Value::try_from([values[2 * k], values[2 * k + 1]]).unwrap_or(Value::Empty)
-}
-
-// The values of the first cells, as many as `before` has.
-pub fn read_values(values: &[u64], before: &mut [Value])
-    requires { 2 * length before.old ≤ length values.now }
-    ensures { (k : ℕ) → k < length before.old → shows before.new k ≡ value_at values.now k }
-{
-    for k in 0..before.len() {
-        before[k] = value_at(values, k);
-    }
 }
 
 // Overwrites the value of cell k.
@@ -42,10 +33,10 @@ fn put_value(values: &mut [u64], k: usize, value: Value)
 }
 
 // Where cell k is.
-pub fn place_of(k: usize, cols: u64) -> CellRef
-    requires { 0 < cols }
-    ensures { result ≡ by_number cols the_ref k }
+pub fn place_of(sheet: &LentSheet<'_>, k: usize) -> CellRef
+    ensures { result ≡ by_number (cols_in sheet.now.nums.now) the_ref k }
 {
+    let cols = sheet.size().cols;
     CellRef {
         row: k as u64 / cols,
         col: k as u64 % cols,
@@ -60,27 +51,26 @@ fn is_changed(value: Value, before: Value) -> bool
 
 // Overwrites the values of the cells that show something else than before, and lists their places.
 pub fn write_changes(
+    sheet: &LentSheet<'_>,
     table: &[Progress],
     before: &[Value],
-    cols: u64,
     values: &mut [u64],
-    changes: &mut Changes,
+    list: &mut PlaceList,
 )
-    requires cols { 0 < cols }
     requires few { length table.now ≤ max_cells }
     requires before { length before.now ≡ length table.now }
     requires room { 2 * length table.now ≤ length values.old }
     requires shown { values.old ≡ values_from (shows before.now) 0 (length table.now) ++ drop (2 * length table.now) values.old }
-    requires empty { changes.old.changed.items ≡ [] }
+    requires empty { list.old.places.items ≡ [] }
     ensures values { values.new ≡ values_from (table_shows table.now) 0 (length table.now) ++ drop (2 * length table.now) values.old }
-    ensures changed { changes.new.changed.items ≡ places_from cols (table_differs table.now before.now) 0 (length table.now) }
-    ensures recalculated { changes.new.recalculated.items ≡ changes.old.recalculated.items }
+    ensures changed { list.new.places.items ≡ places_from (cols_in sheet.now.nums.now) (table_differs table.now before.now) 0 (length table.now) }
 {
-    for k in 0..table.len() {
-        let value = known_value(table[k]);
+    // No zip with before: its turns have no number in the proof, and the row and the list go by k.
+    for (k, progress) in table.iter().enumerate() {
+        let value = progress.known_value();
         if is_changed(value, before[k]) {
             put_value(values, k, value);
-            changes.add_changed(place_of(k, cols));
+            list.add(place_of(sheet, k));
         }
     }
 }

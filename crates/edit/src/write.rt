@@ -2,14 +2,8 @@
 use formula::CellRef;
 
 #[derive(Clone, Copy)]
-pub enum Content<'a> {
-    Blank,
-    // The tokens of a formula.
-    Formula(&'a [u64]),
-}
-
-#[derive(Clone, Copy)]
 pub struct Write<'a> {
     pub place: CellRef,
-    pub content: Content<'a>,
+    // The tokens of a formula; None is a blank.
+    pub formula: Option<&'a [u64]>,
 }

@@ -1,6 +1,6 @@
 // A write into a lent sheet, with the row of what it shows.
 ghost use Rattle.std.specs.Prelude.{◌≡◌, true, is_ok};
-ghost use Rattle.recalc.specs.Layout.{size_in, checked};
+ghost use Rattle.recalc.specs.Layout.{checked};
 ghost use Rattle.recalc.specs.Sheets.{sheet_in};
 ghost use Rattle.recalc.specs.Showing.{ShownIn};
 ghost use Rattle.edit.specs.Writes.{allowed};
@@ -8,35 +8,34 @@ ghost use Rattle.edit.specs.Memory.{Ready, WroteAsked, Writes, ShowsAndWrites};
 ghost use Rattle.edit.specs.States.{state};
 
 use crate::changes::Changes;
-use crate::check::{check_write, read_size};
+use crate::check::check_write;
 use crate::memory::put_cell;
 use crate::room::Room;
 use crate::write::Write;
-use recalc::{Refusal, Size, show_sheet};
+use recalc::{LentSheet, Refusal, show_sheet};
 
-// A write that is not refused, into a sheet of this size.
+// A write that is not refused. What is lent stays apart: a struct that held it by `&mut` would have to say at each step that it is still the same.
 fn write_inside(
     nums: &mut [u64],
     values: &mut [u64],
-    size: Size,
     write: Write<'_>,
     room: &mut Room,
     changes: &mut Changes,
 )
     requires sheet { is_ok (checked nums.old) ≡ true }
-    requires size { size ≡ size_in nums.old }
     requires shown { ShownIn (sheet_in nums.old) values.old }
     requires allowed { is_ok (allowed write (sheet_in nums.old)) ≡ true }
     ensures wrote { WroteAsked write.entry (state nums.old values.old changes.old) (state nums.new values.new changes.new) }
     ensures ready { Ready (state nums.new values.new changes.new) }
 {
-    let n = (size.rows * size.cols) as usize;
-    let k = (write.place.row * size.cols + write.place.col) as usize;
-    room.note_before(values, n);
-    room.mark(k);
-    put_cell(nums, k, write.content);
-    room.recalculate(nums, n);
-    room.tell(nums, n, size.cols, values, changes);
+    let before = LentSheet::of(nums);
+    let n = before.count();
+    let k = (write.place.row * before.size().cols + write.place.col) as usize;
+    room.note_before(values, n, k);
+    put_cell(nums, k, write.formula);
+    let after = LentSheet::of(nums);
+    room.recalculate(&after);
+    room.tell(&after, values, changes);
 }
 
 // Writes into a sheet that is not refused, of which `values` has what it shows. The cell is worked out, and so are the formulas that
@@ -53,9 +52,8 @@ pub fn write_cell(
     requires shown { ShownIn (sheet_in nums.old) values.old }
     ensures { Writes write.entry (state nums.old values.old changes.old) result (state nums.new values.new changes.new) }
 {
-    let size = read_size(nums);
-    check_write(nums, size, write)?;
-    write_inside(nums, values, size, write, room, changes);
+    check_write(&LentSheet::of(nums), write)?;
+    write_inside(nums, values, write, room, changes);
     Ok(())
 }
 

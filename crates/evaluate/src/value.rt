@@ -14,8 +14,9 @@ pub enum CellError {
     Cycle,
 }
 
-#[derive(Clone, Copy, PartialEq, Eq)]
+#[derive(Clone, Copy, Default, PartialEq, Eq)]
 pub enum Value {
+    #[default]
     Empty,
     Number(u64),
     Error(CellError),

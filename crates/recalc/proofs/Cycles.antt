@@ -10,7 +10,7 @@ use Rattle.recalc.proofs.Counting.{meets_again}
 use Rattle.recalc.proofs.Settling.{cycle_or_not, agrees_deep, settles}
 
 -- one look more
-leads_on : {looks : ℕ → ℕ → Type 0} {a b c : ℕ} → Leads looks a b → looks b c → Leads looks a c
+pub leads_on : {looks : ℕ → ℕ → Type 0} {a b c : ℕ} → Leads looks a b → looks b c → Leads looks a c
 leads_on (one q) r = more q (one r)
 leads_on (more q p) r = more q (leads_on p r)
 

@@ -10,7 +10,6 @@ pub mod Table
 pub mod Moves
 pub mod Turns
 pub mod Starts
-pub mod Rooms
 pub mod Rows
 pub mod Shown
 pub mod Ways

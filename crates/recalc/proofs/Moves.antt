@@ -6,9 +6,10 @@ use Rattle.evaluate.specs.declared.value.Value.{Value}
 use Rattle.recalc.specs.declared.formulas.Progress.{Progress}
 use Rattle.recalc.specs.declared.formulas.Progress.TheVariants.{Waiting, Open, Known}
 use Rattle.recalc.specs.Language.{Leads, one, more}
+use Rattle.recalc.proofs.Cycles.{leads_on}
 use Rattle.recalc.specs.Table.{at, Right, Has, Top}
-use Rattle.recalc.proofs.Table.{by_entry}
-use Rattle.recalc.specs.Change.{flag, Change, Dirty, Decided, Good, weight, load, unmarked_one, unmarked}
+use Rattle.recalc.proofs.Table.{by_entry, waiting_less, waiting_known, open_not}
+use Rattle.recalc.specs.Change.{flag, Change, Dirty, Decided, Good, Kept, weight, load, unmarked_one, unmarked}
 
 pub load_set : (t : List Progress) (k : ℕ) (p : Progress) → k < length t → load (set t k p) + weight (at t k) ≡ load t + weight p
 unfolding load
@@ -21,10 +22,6 @@ unfolding unmarked
 unmarked_set [] k l = omega arith
 unmarked_set (b ∷ w) zero l = omega arith
 unmarked_set (b ∷ w) (suc k) l = omega (arith, unmarked_set w k (omega arith))
-
-pub leads_on : {looks : ℕ → ℕ → Type 0} {a b c : ℕ} → Leads looks a b → looks b c → Leads looks a c
-leads_on (one h) k = more h (one k)
-leads_on (more h p) k = more h (leads_on p k)
 
 never : {A : Type 0} (i : ℕ) (c : Value) → Open i ≡ Known c → A
 never i c e = absurd (let z : ◌≡◌ {A = ℕ} 0 1 = cc in omega arith)
@@ -59,7 +56,7 @@ module _ {x : Change} {t v : List Progress} {w : List Bool} {s : List ℕ} (g : 
   top_within k (l, e) = subst (λ m. m < x.n) (sym e) (g.within (length s - 1) (omega arith))
 
   -- c is noted as what the cell k of the stack shows
-  pub noted : (k : ℕ) (c : Value) (v₁ : List Progress) → k < x.n → On s k → c ≡ x.after k → ((c ≡ x.before k) × (v₁ ≡ set v k (Known c))) ⊎ ((c ≡ x.before k → ⊥) × (v₁ ≡ v)) → Good x (set t k (Known c)) v₁ w s
+  pub noted : (k : ℕ) (c : Value) (v₁ : List Progress) → k < x.n → On s k → c ≡ x.after k → Kept x.before k c v v₁ → Good x (set t k (Known c)) v₁ w s
   noted k c v₁ l on r kept =
       let kt : k < length t = omega (arith, g.t_size) in
       let kv : k < length v = omega (arith, g.v_size) in
@@ -84,6 +81,7 @@ module _ {x : Change} {t v : List Progress} {w : List Bool} {s : List ℕ} (g : 
             ⊎_elim
             (λ h. ap (λ m. at m j) h.1 ∙ get_or-set_other v k j (Known c) Waiting ne ∙ g.kept_all j q)
             (λ h. ap (λ m. at m j) h.1 ∙ g.kept_all j q) kept);
+        room = omega (arith, length-set t k (Known c), waiting_known t k c, g.room);
         within = g.within;
         opened = by_entry Waiting t k (Known c) (λ j y. (i : ℕ) → y ≡ Open i → (i < length s) × (get_or s i 0 ≡ j)) kt
             (λ i q. never i c (sym q))
@@ -109,6 +107,7 @@ module _ {x : Change} {t v : List Progress} {w : List Bool} {s : List ℕ} (g : 
         kept_right = g.kept_right;
         kept_same = g.kept_same;
         kept_all = g.kept_all;
+        room = omega (arith, g.room, len);
         within = λ i h. subst (λ m. m < x.n) (sym (get i (omega arith))) (g.within i (omega arith));
         opened = λ j i q.
             let a = g.opened j i q in
@@ -151,6 +150,7 @@ module _ {x : Change} {t v : List Progress} {w : List Bool} {s : List ℕ} (g : 
         kept_right = g.kept_right;
         kept_same = g.kept_same;
         kept_all = by_entry Waiting t j (Open (length s)) (λ i y. y ≡ Known (x.before i) → at v i ≡ Known (x.before i)) within (λ q. never _ _ q) (λ i ne. g.kept_all i);
+        room = omega (arith, length-set t j (Open (length s)), waiting_less t j (Open (length s)) within wt (open_not (length s)), g.room, len);
         within = λ i q.
             ⊎_elim
             (λ (u : i < length s). subst (λ m. m < x.n) (sym (get i u)) (g.within i u))
@@ -189,6 +189,7 @@ module _ {x : Change} {t v : List Progress} {w : List Bool} {s : List ℕ} (g : 
         kept_right = g.kept_right;
         kept_same = g.kept_same;
         kept_all = g.kept_all;
+        room = g.room;
         within = g.within;
         opened = g.opened;
         chain = g.chain;

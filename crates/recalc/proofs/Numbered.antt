@@ -13,14 +13,13 @@ use Rattle.evaluate.specs.Evaluation.{attempt}
 use Rattle.evaluate.specs.declared.value.Value.{Value}
 use Rattle.evaluate.specs.declared.value.Value.TheVariants.{Empty}
 use Rattle.recalc.specs.declared.size.Size.{Size}
-use Rattle.recalc.specs.declared.formulas.Attempt.{Attempt}
 use Rattle.recalc.specs.declared.formulas.Progress.{Progress}
 use Rattle.recalc.specs.declared.formulas.Progress.TheVariants.{Waiting, Open, Known}
 use Rattle.recalc.specs.declared.refusal.Refusal.TheVariants.{Rows, Columns, Short}
 use Rattle.recalc.specs.Layout.{rows_in, cols_in, sheet_len, cell_numbers, first_malformed, unless_malformed, within, size_in, checked, Sized}
 use Rattle.recalc.specs.Table.{at, Right, Has, Answers, NeedsWithin}
 use Rattle.recalc.specs.Sheets.{Sheet, inside, formula_in, sheet_in}
-use Rattle.recalc.specs.Numbered.{count, number_of, nth_cell, laid, worked, LooksAt, known_of, laid_known, tried, tried_cell, as_attempt, readable}
+use Rattle.recalc.specs.Numbered.{count, number_of, nth_cell, laid, worked, LooksAt, known_of, laid_known, tried, tried_cell, as_attempt}
 use Rattle.recalc.specs.SheetLaws.{number_inside}
 use Rattle.recalc.proofs.Fitting.{within_is, is_within}
 use Rattle.recalc.proofs.Tries.{RightAt, made, wanted}
@@ -140,38 +139,24 @@ checked_size xs z e =
     go true false d o e = absurd (let y : ◌≡◌ {A = ℕ} 0 1 = cc in omega arith)
     go false b d o e = absurd (let y : ◌≡◌ {A = ℕ} 0 1 = cc in omega arith)
 
--- where there is a cell to show, the memory is a sheet
-pub record LentCell (xs : List ℕ) : Type 0 where
-  pub is : readable xs ≡ sheet_in xs
-  pub sized : Sized xs (size_in xs)
-
-pub lent_cell : (xs : List ℕ) (k : ℕ) → k < count (readable xs) → LentCell xs
-lent_cell xs k l = go (is_ok (checked xs)) refl l
-  where
-    go : (b : Bool) → is_ok (checked xs) ≡ b → k < count (cond b (sheet_in xs) (record { rows = 0; cols = 0; cells = λ r c. None })) → LentCell xs
-    go true e l = record { is = cond-true (is_ok (checked xs)) (sheet_in xs) _ e; sized = checked_sized xs e }
-    go false e l = absurd (omega arith)
-
 -- the number of a cell that is wanted is small
-pub wanted_small : (xs : List ℕ) (z : Size) (T : List Progress) (k : ℕ) (q : CellRef) → z ≡ size_in xs → Sized xs z
+pub wanted_small : (xs : List ℕ) (z : Size) (T : List Progress) (k : ℕ) (q : CellRef) → z ≡ size_in xs → is_ok (checked xs) ≡ true
     → tried_cell (laid_known z.rows z.cols T) (nth_cell (sheet_in xs) k) ≡ Err q → q.row * z.cols + q.col < max_cells
 wanted_small xs z T k q same =
-    subst (λ (y : Size). Sized xs y → tried_cell (laid_known y.rows y.cols T) (nth_cell (sheet_in xs) k) ≡ Err q → q.row * y.cols + q.col < max_cells) (sym same)
-    (λ sized e.
+    subst (λ (y : Size). is_ok (checked xs) ≡ true → tried_cell (laid_known y.rows y.cols T) (nth_cell (sheet_in xs) k) ≡ Err q → q.row * y.cols + q.col < max_cells) (sym same)
+    (λ ok e.
+    let sized = checked_sized xs ok in
     let n = number_inside (sheet_in xs) q (wanted_inside (sheet_in xs) T k q e) in
     omega (arith, n, mul-le (rows_in xs) (cols_in xs) max_rows max_columns sized.few_rows sized.few_cols))
 
 -- what an attempt at a cell of the sheet in memory answers is what the engine asks
-pub lent_answers : (xs : List ℕ) (z : Size) (T : List Progress) (k : ℕ) (a : Attempt) → k < count (readable xs) → z ≡ size_in xs
-    → a ≡ as_attempt (sheet_in xs) (tried_cell (laid_known z.rows z.cols T) (nth_cell (sheet_in xs) k))
-    → NeedsWithin (count (readable xs)) a × ((f : ℕ → Value) → Right f T → Answers (worked (readable xs) f k) (LooksAt (readable xs) f k) T a)
-lent_answers xs z T k a l same e =
-    subst (λ (s : Sheet). NeedsWithin (count s) a × ((f : ℕ → Value) → Right f T → Answers (worked s f k) (LooksAt s f k) T a)) (sym (lent_cell xs k l).is)
-    (subst (λ (b : Attempt). NeedsWithin (count s) b × ((f : ℕ → Value) → Right f T → Answers (worked s f k) (LooksAt s f k) T b)) (sym (e ∙ ap (λ (y : Size). as_attempt s (tried_cell (laid_known y.rows y.cols T) (nth_cell s k))) same))
-    (needs_within s T k _ refl, answers s T k _ refl))
-  where
-    s : Sheet
-    s = sheet_in xs
+pub lent_answers : (xs : List ℕ) (z : Size) (T : List Progress) (k : ℕ) → z ≡ size_in xs
+    → (r : Result Value CellRef) → r ≡ tried_cell (laid_known z.rows z.cols T) (nth_cell (sheet_in xs) k)
+    → NeedsWithin (count (sheet_in xs)) (as_attempt (sheet_in xs) r) × ((f : ℕ → Value) → Right f T → Answers (worked (sheet_in xs) f k) (LooksAt (sheet_in xs) f k) T (as_attempt (sheet_in xs) r))
+lent_answers xs z T k same r e =
+    let d : tried_cell (laid_known (rows_in xs) (cols_in xs) T) (nth_cell (sheet_in xs) k) ≡ r =
+    sym (e ∙ ap (λ (y : Size). tried_cell (laid_known y.rows y.cols T) (nth_cell (sheet_in xs) k)) same) in
+    (needs_within (sheet_in xs) T k r d, answers (sheet_in xs) T k r d)
 
 -- no sheet has more cells than the largest
 pub few_cells : (xs : List ℕ) (z : Size) → Sized xs z → z.rows * z.cols ≤ max_cells

@@ -1,24 +1,11 @@
 -- The table of a recalculation, with one entry set, and how many cells wait. Assumes nothing.
-use Rattle.std.proofs.Common.{◌≡◌, ℕ, zero, suc, ◌+◌, ◌-◌, ◌<◌, ◌≤◌, ◌≢◌, List, [], ◌∷◌, length, get_or, take, set, replicate, sym, refl, ap, ◌∙◌, subst, ⊎_elim, arith}
-use Rattle.std.proofs.lemmas.List.{length-replicate, length-take-le, take-take, get_or-replicate, get_or-set_same, get_or-set_other, get_or_past}
+use Rattle.std.proofs.Common.{◌≡◌, ℕ, zero, suc, ◌+◌, ◌<◌, ◌≤◌, ◌≢◌, List, [], ◌∷◌, length, get_or, set, replicate, sym, refl, ap, subst, ⊎_elim, arith}
+use Rattle.std.proofs.lemmas.List.{length-replicate, get_or-replicate, get_or-set_same, get_or-set_other, get_or_past}
 use Rattle.std.proofs.lemmas.Bool.{cases_eq, cases_lt}
 use Rattle.evaluate.specs.declared.value.Value.{Value}
 use Rattle.recalc.specs.declared.formulas.Progress.{Progress}
 use Rattle.recalc.specs.declared.formulas.Progress.TheVariants.{Waiting, Open, Known}
 use Rattle.recalc.specs.Table.{at, Later, waiting}
-
--- what is not waiting lies in the table
-pub inside : (t : List Progress) (k : ℕ) → (at t k ≡ Waiting → ⊥) → k < length t
-inside t k h = ⊎_elim (λ l. l) (λ l. absurd (h (get_or_past t k Waiting l))) (cases_lt k (length t))
-
-pub open_inside : (t : List Progress) (k i : ℕ) → at t k ≡ Open i → k < length t
-open_inside t k i e = inside t k (λ w. let z : ◌≡◌ {A = ℕ} 0 1 = cc in omega arith)
-
--- what neither waits nor is known is open
-pub open_else : (p : Progress) → (p ≡ Waiting → ⊥) → ((v : Value) → p ≡ Known v → ⊥) → (i : ℕ) × (p ≡ Open i)
-open_else Waiting w n = absurd (w refl)
-open_else (Open i) w n = (i, refl)
-open_else (Known v) w n = absurd (n v refl)
 
 -- one entry of a list is set, and k is asked about
 pub by_entry : {A : Type 0} (d : A) (xs : List A) (j : ℕ) (x : A) (P : ℕ → A → Type 0) → j < length xs → P j x → ((k : ℕ) → k ≢ j → P k (get_or xs k d)) → (k : ℕ) → P k (get_or (set xs j x) k d)
@@ -39,20 +26,6 @@ waiting_less (Known v ∷ t) zero x l e h = let z : ◌≡◌ {A = ℕ} 0 1 = cc
 waiting_less (Waiting ∷ t) (suc k) x l e h = omega (arith, waiting_less t k x (omega arith) e h)
 waiting_less (Open i ∷ t) (suc k) x l e h = waiting_less t k x (omega arith) e h
 waiting_less (Known v ∷ t) (suc k) x l e h = waiting_less t k x (omega arith) e h
-
-pub waiting_same : (t : List Progress) (k : ℕ) (x : Progress) → (at t k ≡ Waiting → ⊥) → (x ≡ Waiting → ⊥) → waiting (set t k x) ≡ waiting t
-unfolding waiting
-waiting_same [] k x e h = refl
-waiting_same (Waiting ∷ t) zero x e h = absurd (e refl)
-waiting_same (Open i ∷ t) zero Waiting e h = absurd (h refl)
-waiting_same (Open i ∷ t) zero (Open j) e h = refl
-waiting_same (Open i ∷ t) zero (Known v) e h = refl
-waiting_same (Known v ∷ t) zero Waiting e h = absurd (h refl)
-waiting_same (Known v ∷ t) zero (Open j) e h = refl
-waiting_same (Known v ∷ t) zero (Known w) e h = refl
-waiting_same (Waiting ∷ t) (suc k) x e h = ap suc (waiting_same t k x e h)
-waiting_same (Open i ∷ t) (suc k) x e h = waiting_same t k x e h
-waiting_same (Known v ∷ t) (suc k) x e h = waiting_same t k x e h
 
 -- nothing becomes waiting by a set to what is not
 pub later_set : (t : List Progress) (j : ℕ) (x : Progress) → j < length t → (x ≡ Waiting → ⊥) → Later t (set t j x)
@@ -79,11 +52,6 @@ waiting_known (Known u ∷ t) zero v = omega arith
 waiting_known (Waiting ∷ t) (suc k) v = omega (arith, waiting_known t k v)
 waiting_known (Open i ∷ t) (suc k) v = waiting_known t k v
 waiting_known (Known u ∷ t) (suc k) v = waiting_known t k v
-
--- one cell less on the stack
-pub popped : (s : List ℕ) (d : ℕ) → d ≤ length s → take (d - 1) s ≡ take (length (take d s) - 1) (take d s)
-popped s d l =
-    sym (ap (λ m. take (m - 1) (take d s)) (length-take-le d s l) ∙ take-take (d - 1) d s (omega arith))
 
 pub all_waiting : (n k : ℕ) → at (replicate n Waiting) k ≡ Waiting
 all_waiting n k =

@@ -1,61 +1,67 @@
 -- The four ways in which a turn ends. Assumes nothing.
-use Rattle.std.proofs.Common.{◌≡◌, ℕ, ◌+◌, ◌-◌, ◌<◌, Bool, true, false, List, [], ◌∷◌, ◌++◌, length, take, set, sym, ap, ◌∙◌, subst, arith}
+use Rattle.std.proofs.Common.{◌≡◌, ℕ, ◌-◌, ◌<◌, Bool, true, false, List, [], ◌∷◌, ◌++◌, length, take, set, sym, refl, ap, ⊎_elim, Ok, Err, arith}
+use Rattle.std.proofs.lemmas.Bool.{cases_Bool}
 use Rattle.std.proofs.lemmas.List.{length-take, get_or-set_same, length_push}
 use Rattle.evaluate.specs.declared.value.Value.{Value}
 use Rattle.recalc.specs.declared.formulas.Progress.{Progress}
 use Rattle.recalc.specs.declared.formulas.Progress.TheVariants.{Waiting, Open, Known}
-use Rattle.recalc.specs.Table.{at, Top}
-use Rattle.recalc.proofs.Table.{later_set}
-use Rattle.recalc.specs.Change.{flag, Change, Dirty, Decided, Good, weight, unmarked_one, Note, Stepped}
+use Rattle.recalc.specs.Language.{Language}
+use Rattle.recalc.specs.Table.{at, Right, Answers, Top}
+use Rattle.recalc.proofs.Table.{later_set, open_not, known_not}
+use Rattle.recalc.specs.Change.{flag, Change, Dirty, Decided, Good, weight, unmarked_one, Kept, Stepped}
 use Rattle.recalc.proofs.Moves.{On, load_set, unmarked_set, top_within, noted, popped, pushed, marked}
 
-known_not : (c : Value) → Known c ≡ Waiting → ⊥
-known_not c e = let z : ◌≡◌ {A = ℕ} 0 1 = cc in omega arith
+-- what an attempt at cell k answers, from the table t where k is marked and else from u, where both are right of what the cells show
+module _ (l : Language) (k : ℕ) (f : ℕ → Value) (t u : List Progress) (right : Right f t) (kept : Right f u) (d : Bool) where
+  pub value_is : (v : Value) → (d ≡ true → (s : ℕ → Value) → Right s t → Answers (l.work s k) (l.looks s k) t (Ok v))
+      → (d ≡ false → (s : ℕ → Value) → Right s u → Answers (l.work s k) (l.looks s k) u (Ok v)) → v ≡ l.work f k
+  value_is v all same = ⊎_elim (λ e. (all e f right).0) (λ e. (same e f kept).0) (cases_Bool d)
 
-open_not : (i : ℕ) → Open i ≡ Waiting → ⊥
-open_not i e = let z : ◌≡◌ {A = ℕ} 0 1 = cc in omega arith
+  pub looked_at : (j : ℕ) → (d ≡ true → (s : ℕ → Value) → Right s t → Answers (l.work s k) (l.looks s k) t (Err j))
+      → (d ≡ false → (s : ℕ → Value) → Right s u → Answers (l.work s k) (l.looks s k) u (Err j)) → l.looks f k j
+  looked_at j all same = ⊎_elim (λ e. (all e f right).0) (λ e. (same e f kept).0) (cases_Bool d)
+
+-- a turn of equal lists
+pub equal : {x : Change} {t t₁ t₂ v₁ v₂ : List Progress} {w w₁ w₂ : List Bool} {s s₁ s₂ : List ℕ} → t₂ ≡ t₁ → v₂ ≡ v₁ → w₂ ≡ w₁ → s₂ ≡ s₁
+    → Stepped x t w s t₁ v₁ w₁ s₁ → Stepped x t w s t₂ v₂ w₂ s₂
+equal p q r e st = rw (p, q, r, e) st
 
 module _ {x : Change} {t v : List Progress} {w : List Bool} {s : List ℕ} (g : Good x t v w s) where
   -- the cell on top is done with
-  pub done : (k : ℕ) (c : Value) (t₁ v₁ : List Progress) (s₁ : List ℕ) → Top s k → c ≡ x.after k → t₁ ≡ set t k (Known c) → Note x k c v v₁ → s₁ ≡ take (length s - 1) s → Decided x w k → Stepped x t w s t₁ v₁ w s₁
-  done k c t₁ v₁ s₁ top r p kept q dirty =
+  pub done : (k : ℕ) (c : Value) (v₁ : List Progress) → Top s k → c ≡ x.after k → Kept x.before k c v v₁ → Decided x w k → Stepped x t w s (set t k (Known c)) v₁ w (take (length s - 1) s)
+  done k c v₁ top r kept dirty =
       let kn = top_within g k top in
       let kt : k < length t = omega (arith, g.t_size) in
       let on : On s k = (length s - 1, omega (arith, top.0), sym top.1) in
-      let len : length s₁ ≡ length s - 1 = ap length q ∙ (simp length-take (omega arith)) in
-      let all : Stepped x t w s (set t k (Known c)) v₁ w s₁ =
+      let len : length (take (length s - 1) s) ≡ length s - 1 = simp length-take (omega arith) in
       record {
-        good = popped (noted g k c v₁ kn on r kept) k c s₁ top q (get_or-set_same t k (Known c) Waiting kt) dirty;
+        good = popped (noted g k c v₁ kn on r kept) k c (take (length s - 1) s) top refl (get_or-set_same t k (Known c) Waiting kt) dirty;
         later = later_set t k (Known c) kt (known_not c);
         less = omega (arith, load_set t k (Known c) kt, len, top.0);
-      } in
-      subst (λ m. Stepped x t w s m v₁ w s₁) (sym p) all
+      }
 
   -- a cell that is waited for comes on top
-  pub entered : (k j i : ℕ) (s₁ : List ℕ) → Top s k → j < x.n → at t j ≡ Waiting → x.looks k j → s₁ ≡ s ++ (j ∷ []) → i ≡ length s → Stepped x t w s (set t j (Open i)) v w s₁
-  entered k j i s₁ top jn wt h p q =
+  pub entered : (k j : ℕ) → Top s k → j < x.n → at t j ≡ Waiting → x.looks k j → Stepped x t w s (set t j (Open (length s))) v w (s ++ (j ∷ []))
+  entered k j top jn wt h =
       let jt : j < length t = omega (arith, g.t_size) in
-      let len : length s₁ ≡ length s + 1 = ap length p ∙ length_push s j in
       let old : weight (at t j) ≡ 3 = ap weight wt in
       record {
-        good = subst (λ m. Good x (set t j (Open m)) v w s₁) (sym q) (pushed g k j s₁ top jn wt h p);
-        later = later_set t j (Open i) jt (open_not i);
-        less = omega (arith, load_set t j (Open i) jt, len, old);
+        good = pushed g k j (s ++ (j ∷ [])) top jn wt h refl;
+        later = later_set t j (Open (length s)) jt (open_not (length s));
+        less = omega (arith, load_set t j (Open (length s)) jt, length_push s j, old);
       }
 
   -- an open cell is found to stand in a cycle
-  pub found_cycle : (j i : ℕ) (c : Value) (t₁ v₁ : List Progress) → j < x.n → at t j ≡ Open i → c ≡ x.after j → t₁ ≡ set t j (Known c) → Note x j c v v₁ → Stepped x t w s t₁ v₁ w s
-  found_cycle j i c t₁ v₁ jn o r p kept =
+  pub found_cycle : (j i : ℕ) (c : Value) (v₁ : List Progress) → j < x.n → at t j ≡ Open i → c ≡ x.after j → Kept x.before j c v v₁ → Stepped x t w s (set t j (Known c)) v₁ w s
+  found_cycle j i c v₁ jn o r kept =
       let jt : j < length t = omega (arith, g.t_size) in
       let on = g.opened j i o in
       let old : weight (at t j) ≡ 1 = ap weight o in
-      let all : Stepped x t w s (set t j (Known c)) v₁ w s =
       record {
         good = noted g j c v₁ jn (i, on.0, on.1) r kept;
         later = later_set t j (Known c) jt (known_not c);
         less = omega (arith, load_set t j (Known c) jt, old);
-      } in
-      subst (λ m. Stepped x t w s m v₁ w s) (sym p) all
+      }
 
   -- a cell is found to be dirty
   pub marks : (k : ℕ) → k < x.n → flag w k ≡ false → Dirty x k → Stepped x t w s t v (set w k true) s

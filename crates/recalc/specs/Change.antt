@@ -1,5 +1,5 @@
 -- What a change to one cell makes dirty, and the tables by which that is found. Assumes nothing: these are definitions.
-use Rattle.std.specs.Prelude.{◌≡◌, ℕ, ◌+◌, ◌<◌, ◌≤◌, Bool, true, false, ◌⊎◌, List, [], ◌∷◌, length, take, ◌≢◌, slice_index, slice_index_or, slice_set}
+use Rattle.std.specs.Prelude.{◌≡◌, ℕ, ◌+◌, ◌<◌, ◌≤◌, Bool, true, false, ◌⊎◌, List, [], ◌∷◌, length, ◌≢◌, slice_index, slice_index_or, slice_set}
 use Rattle.evaluate.specs.declared.value.Value.{Value}
 use Rattle.evaluate.specs.declared.value.Value.TheVariants.{Empty}
 use Rattle.recalc.specs.declared.formulas.Progress.{Progress}
@@ -44,6 +44,8 @@ pub record Good (x : Change) (t v : List Progress) (w : List Bool) (s : List ℕ
   pub kept_right : Right x.after v
   pub kept_same : Right x.before v
   pub kept_all : (k : ℕ) → at t k ≡ Known (x.before k) → at v k ≡ Known (x.before k)
+  -- there is room on the stack for each cell that waits
+  pub room : waiting t + length s ≤ length t
   pub within : (i : ℕ) → i < length s → slice_index s i < x.n
   pub opened : (k i : ℕ) → at t k ≡ Open i → (i < length s) × (slice_index s i ≡ k)
   pub chain : (i : ℕ) → i + 1 < length s → x.looks (slice_index s i) (slice_index s (i + 1))
@@ -51,12 +53,9 @@ pub record Good (x : Change) (t v : List Progress) (w : List Bool) (s : List ℕ
   pub sound : (k : ℕ) → flag w k ≡ true → Dirty x k
   pub decided : (k : ℕ) → (at t k ≢ Waiting) → ((i : ℕ) → i < length s → slice_index s i ≢ k) → Decided x w k
 
--- c noted as what cell k shows
-abbrev pub Note : Change → ℕ → Value → List Progress → List Progress → Type 0
-Note x k c v v₁ = ((c ≡ x.before k) × (v₁ ≡ slice_set v k (Known c))) ⊎ ((c ≢ x.before k) × (v₁ ≡ v))
-
-abbrev pub Kept : List Value → ℕ → Value → List Progress → List Progress → Type 0
-Kept before k c v v₁ = ((c ≡ shows before k) × (v₁ ≡ slice_set v k (Known c))) ⊎ ((c ≢ shows before k) × (v₁ ≡ v))
+-- c noted as what cell k shows, where the cells showed before: kept if that is what it showed
+abbrev pub Kept : (ℕ → Value) → ℕ → Value → List Progress → List Progress → Type 0
+Kept before k c v v₁ = ((c ≡ before k) × (v₁ ≡ slice_set v k (Known c))) ⊎ ((c ≢ before k) × (v₁ ≡ v))
 
 abbrev pub weight : Progress → ℕ
 weight Waiting = 3
@@ -83,18 +82,6 @@ pub record Stepped (x : Change) (t : List Progress) (w : List Bool) (s : List �
   pub good : Good x t₁ v₁ w₁ s₁
   pub later : Later t t₁
   pub less : toil t₁ w₁ s₁ < toil t w s
-
--- the stack is the first d cells of s, and s has room for each cell that waits besides
-pub record Going (x : Change) (t v : List Progress) (w : List Bool) (s : List ℕ) (d : ℕ) : Type 0 where
-  pub good : Good x t v w (take d s)
-  pub long : length t ≤ length s
-  pub room : waiting t + d ≤ length t
-
--- one turn on from t and w, with d cells on the stack
-pub record Moved (x : Change) (t : List Progress) (w : List Bool) (d : ℕ) (t₁ v₁ : List Progress) (w₁ : List Bool) (s₁ : List ℕ) (d₁ : ℕ) : Type 0 where
-  pub going : Going x t₁ v₁ w₁ s₁ d₁
-  pub later : Later t t₁
-  pub less : load t₁ + unmarked w₁ + d₁ < load t + unmarked w + d
 
 -- every cell is known as it is shown, and those are marked that are dirty
 pub record Updated (x : Change) (t : List Progress) (w : List Bool) : Type 0 where

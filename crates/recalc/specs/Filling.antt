@@ -5,4 +5,4 @@ use Rattle.recalc.specs.declared.filled.Filled.{Filled}
 use Rattle.recalc.specs.Numbered.{laid_known}
 
 abbrev pub in_table : Filled → ℕ → ℕ → Option Value
-in_table s r c = laid_known s.rows s.cols s.table.now r c
+in_table s r c = laid_known s.size.rows s.size.cols s.table.now r c

@@ -1,7 +1,8 @@
 -- A sheet in lent memory, and when it is refused. Assumes nothing: these are definitions.
-use Rattle.std.specs.Prelude.{ℕ, zero, suc, ◌+◌, ◌*◌, ◌≤◌, Bool, true, false, cond, ◌&&◌, List, length, take, drop, Some, None, Ok, Err, Option, Result, nat_le, slice_index}
+use Rattle.std.specs.Prelude.{ℕ, zero, suc, ◌+◌, ◌*◌, ◌≤◌, Bool, cond, ◌&&◌, List, length, take, drop, Some, None, Ok, Err, Option, Result, nat_le, slice_index}
 use Rattle.formula.specs.Layout.{cell_len}
-use Rattle.formula.specs.Cells.{Content, blank, holds, malformed, content}
+use Rattle.formula.specs.Cells.{content}
+pub use Rattle.formula.specs.Cells.{is_malformed}
 use Rattle.evaluate.specs.Limits.{max_rows, max_columns}
 use Rattle.recalc.specs.declared.size.Size.{Size}
 use Rattle.recalc.specs.declared.refusal.Refusal.{Refusal}
@@ -25,11 +26,6 @@ sheet_len n = header_len + cell_len * n
 -- the part that is cell k, in reading order
 abbrev pub cell_numbers : ℕ → List ℕ → List ℕ
 cell_numbers k xs = take cell_len (drop (sheet_len k) xs)
-
-abbrev pub is_malformed : Content → Bool
-is_malformed blank = false
-is_malformed (holds ts) = false
-is_malformed malformed = true
 
 -- the first of n cells, from cell k on, that is malformed
 unfoldable pub first_malformed : ℕ → ℕ → List ℕ → Option ℕ

@@ -5,6 +5,7 @@ pub mod Language
 pub mod Theory
 pub mod Table
 pub mod Change
+pub mod Turns
 pub mod Numbered
 pub mod Filling
 pub mod Entries

@@ -1,5 +1,5 @@
 -- The cells of a sheet by their numbers in reading order, as the engine has them. Assumes nothing: these are definitions.
-use Rattle.std.specs.Prelude.{◌≡◌, ℕ, ◌+◌, ◌*◌, ◌/◌, ◌%◌, true, cond, List, is_ok, Some, None, Ok, Err, Option, Result}
+use Rattle.std.specs.Prelude.{◌≡◌, ℕ, ◌+◌, ◌*◌, ◌/◌, ◌%◌, true, cond, List, Some, None, Ok, Err, Option, Result}
 use Rattle.formula.specs.declared.token.CellRef.{CellRef}
 use Rattle.formula.specs.Formula.{Formula}
 use Rattle.evaluate.specs.declared.value.Value.{Value}
@@ -10,11 +10,8 @@ use Rattle.evaluate.specs.Evaluation.{attempt}
 use Rattle.evaluate.specs.Knowledge.{In}
 use Rattle.recalc.specs.declared.formulas.Progress.{Progress}
 use Rattle.recalc.specs.declared.formulas.Progress.TheVariants.{Waiting, Open, Known}
-use Rattle.recalc.specs.declared.formulas.Attempt.{Attempt}
-use Rattle.recalc.specs.declared.formulas.Attempt.TheVariants.{Done, Needs}
-use Rattle.recalc.specs.Layout.{checked}
 use Rattle.recalc.specs.Table.{at}
-use Rattle.recalc.specs.Sheets.{Sheet, inside, held, cell_shows, cell_looks, sheet_in}
+use Rattle.recalc.specs.Sheets.{Sheet, inside, held, cell_shows, cell_looks}
 use Rattle.recalc.specs.Language.{Language}
 
 abbrev pub count : Sheet → ℕ
@@ -52,10 +49,6 @@ laid_known h w t r c = cond (inside (record { rows = h; cols = w; cells = λ i j
 abbrev pub sheet_language : Sheet → Language
 sheet_language s = record { count = count s; work = worked s; looks = LooksAt s }
 
--- the sheet that lies in a memory; none where that is refused
-abbrev pub readable : List ℕ → Sheet
-readable xs = cond (is_ok (checked xs)) (sheet_in xs) (record { rows = 0; cols = 0; cells = λ r c. None })
-
 -- the end of a formula's work as what its cell shows, or the place that is wanted
 abbrev pub tried : Result ℕ Stop → Result Value CellRef
 tried (Ok n) = Ok (Number n)
@@ -68,6 +61,6 @@ tried_cell t None = Ok Empty
 tried_cell t (Some x) = tried (attempt t x)
 
 -- the same as the engine has it
-abbrev pub as_attempt : Sheet → Result Value CellRef → Attempt
-as_attempt s (Ok v) = Done v
-as_attempt s (Err q) = Needs (number_of s q)
+abbrev pub as_attempt : Sheet → Result Value CellRef → Result Value ℕ
+as_attempt s (Ok v) = Ok v
+as_attempt s (Err q) = Err (number_of s q)

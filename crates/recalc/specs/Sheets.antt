@@ -2,8 +2,8 @@
 use Rattle.std.specs.Prelude.{◌≡◌, ℕ, zero, suc, ◌+◌, ◌*◌, Bool, cond, ◌&&◌, List, [], Some, None, Option, nat_lt}
 use Rattle.formula.specs.declared.token.CellRef.{CellRef}
 use Rattle.formula.specs.Formula.{Formula}
-use Rattle.formula.specs.Reading.{spelled}
-use Rattle.formula.specs.Cells.{Content, blank, holds, malformed, content}
+use Rattle.formula.specs.Cells.{content}
+pub use Rattle.formula.specs.Cells.{formula_in}
 use Rattle.evaluate.specs.declared.value.CellError.TheVariants.{Cycle}
 use Rattle.evaluate.specs.declared.value.Value.{Value}
 use Rattle.evaluate.specs.declared.value.Value.TheVariants.{Empty, Error}
@@ -46,11 +46,6 @@ deep (suc n) s r c = cell_shows (λ i j. deep n s i j) (held s r c)
 -- no way of different cells is longer than that
 unfoldable pub shown : Sheet → ℕ → ℕ → Value
 shown s r c = deep (suc (s.rows * s.cols)) s r c
-
-abbrev pub formula_in : Content → Option Formula
-formula_in blank = None
-formula_in (holds ts) = spelled ts
-formula_in malformed = None
 
 -- the sheet that lies in a memory
 abbrev pub sheet_in : List ℕ → Sheet

@@ -1,10 +1,8 @@
 -- The table of a recalculation and what it says. Assumes nothing: these are definitions.
-use Rattle.std.specs.Prelude.{◌≡◌, ℕ, suc, ◌-◌, ◌<◌, List, [], ◌∷◌, length, ◌≢◌, slice_index, slice_index_or}
+use Rattle.std.specs.Prelude.{◌≡◌, ℕ, suc, ◌-◌, ◌<◌, List, [], ◌∷◌, length, ◌≢◌, Ok, Err, Result, slice_index, slice_index_or}
 use Rattle.evaluate.specs.declared.value.Value.{Value}
 use Rattle.recalc.specs.declared.formulas.Progress.{Progress}
 use Rattle.recalc.specs.declared.formulas.Progress.TheVariants.{Waiting, Open, Known}
-use Rattle.recalc.specs.declared.formulas.Attempt.{Attempt}
-use Rattle.recalc.specs.declared.formulas.Attempt.TheVariants.{Done, Needs}
 
 abbrev pub at : List Progress → ℕ → Progress
 at t k = slice_index_or t k Waiting
@@ -18,13 +16,13 @@ Has t k = (v : Value) × (at t k ≡ Known v)
 
 -- what an attempt at a cell answers from the table t: its value, worked out from the values that t knows alone,
 -- or a cell that it looks at and that t does not know
-abbrev pub Answers : Value → (ℕ → Type 0) → List Progress → Attempt → Type 0
-Answers value looks t (Done v) = (v ≡ value) × ((j : ℕ) → looks j → Has t j)
-Answers value looks t (Needs j) = looks j × ((v : Value) → at t j ≢ Known v)
+abbrev pub Answers : Value → (ℕ → Type 0) → List Progress → Result Value ℕ → Type 0
+Answers value looks t (Ok v) = (v ≡ value) × ((j : ℕ) → looks j → Has t j)
+Answers value looks t (Err j) = looks j × ((v : Value) → at t j ≢ Known v)
 
-abbrev pub NeedsWithin : ℕ → Attempt → Type 0
-NeedsWithin n (Done v) = Unit {0}
-NeedsWithin n (Needs j) = j < n
+abbrev pub NeedsWithin : ℕ → Result Value ℕ → Type 0
+NeedsWithin n (Ok v) = Unit {0}
+NeedsWithin n (Err j) = j < n
 
 -- k is the last on the stack
 abbrev pub Top : List ℕ → ℕ → Type 0

@@ -3,11 +3,11 @@ ghost use Rattle.std.specs.Prelude.{◌*◌, ◌≤◌, length};
 ghost use Rattle.evaluate.specs.Limits.{max_rows, max_columns};
 
 use crate::formulas::Progress;
+use crate::size::Size;
 
 #[derive(Clone, Copy)]
 pub struct Filled<'a> {
-    pub rows: u64,
-    pub cols: u64,
+    pub size: Size,
     pub table: &'a [Progress],
-    ghost few: { (rows ≤ max_rows) × (cols ≤ max_columns) × (rows * cols ≤ length table.now) },
+    ghost few: { (size.rows ≤ max_rows) × (size.cols ≤ max_columns) × (size.rows * size.cols ≤ length table.now) },
 }

@@ -3,30 +3,22 @@ ghost use Rattle.recalc.specs.Shown.{ShownIsConsistent, DeeperIsTheSame, OnlyAns
 ghost use Rattle.recalc.specs.Stair.{StairShows};
 
 // Each cell shows what its formula makes of what the others show, and looking deeper than there are cells changes nothing.
-pub fn shown_agrees_with_itself() -> u8
+pub fn shown_agrees_with_itself()
     ensures consistent { ShownIsConsistent }
     ensures deeper { DeeperIsTheSame }
-{
-    0
-}
+{}
 
 // Whatever else the cells may show by their formulas, it is this wherever this shows no cycle.
-pub fn only_answer() -> u8
+pub fn only_answer()
     ensures { OnlyAnswer }
-{
-    0
-}
+{}
 
 // A cell shows the cycle error exactly if it is, or a way of looks leads from it to, a cell with a way back to itself.
-pub fn cycles_are_exact() -> u8
+pub fn cycles_are_exact()
     ensures { CycleExactly }
-{
-    0
-}
+{}
 
 // A stair shows what one works out by hand, with a row inserted, written to, deleted, with what is lost and with a cycle.
-pub fn stair_shows() -> u8
+pub fn stair_shows()
     ensures { StairShows }
-{
-    0
-}
+{}

@@ -1,7 +1,7 @@
 // A sheet in lent memory: its rows, its columns, and 61 numbers a cell in reading order.
 ghost use Rattle.std.specs.Prelude.{◌≡◌, IfOk, slice_index};
 ghost use Rattle.formula.specs.Cells.{content, meant};
-ghost use Rattle.recalc.specs.Layout.{cell_numbers, first_malformed, within, checked, fitting, Sized};
+ghost use Rattle.recalc.specs.Layout.{cell_numbers, is_malformed, first_malformed, within, checked, fitting, Sized};
 
 use crate::refusal::Refusal;
 use crate::size::Size;
@@ -23,12 +23,19 @@ pub fn cell_at(nums: &[u64], index: usize) -> Cell<'_>
     Cell::read(&nums[from..from + CELL_LEN])
 }
 
+fn is_malformed_at(nums: &[u64], index: usize) -> bool
+    ensures { result ≡ is_malformed (content (cell_numbers index nums.now)) }
+{
+    matches!(cell_at(nums, index), Cell::Malformed)
+}
+
 // The first of so many cells that is malformed.
 fn first_malformed_cell(nums: &[u64], count: usize) -> Option<usize>
     ensures { result ≡ first_malformed 0 count nums.now }
 {
+    // Tried (0..count).find(..): that the cells before the one found are well formed stayed open.
     for index in 0..count {
-        if let Cell::Malformed = cell_at(nums, index) {
+        if is_malformed_at(nums, index) {
             return Some(index);
         }
     }
@@ -39,13 +46,13 @@ fn first_malformed_cell(nums: &[u64], count: usize) -> Option<usize>
 pub fn number_at(nums: &[u64], index: usize) -> u64
     ensures { result ≡ slice_index nums.now index }
 {
-    if index < nums.len() { nums[index] } else { 0 }
+    nums.get(index).copied().unwrap_or(0)
 }
 
 fn is_within(n: u64, most: u64) -> bool
     ensures { result ≡ within most n }
 {
-    1 <= n && n <= most
+    (1..=most).contains(&n)
 }
 
 // The size of a sheet, or the first refusal that applies to it.

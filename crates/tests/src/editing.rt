@@ -1,6 +1,6 @@
 // Writes: what is told, and what is worked out again.
 use crate::places::listed;
-use edit::{Changes, Content, Room, Write, write_shown};
+use edit::{Changes, Room, Write, write_shown};
 use formula::CellRef;
 use samples::{add_cell, new_sheet};
 use std::alloc::{AllocError, Global};
@@ -19,14 +19,14 @@ struct Desk {
 
 // Into a cell of row 0; without tokens, a blank.
 fn write_of(col: u64, tokens: &[u64]) -> Write<'_> {
-    let content = if tokens.is_empty() {
-        Content::Blank
+    let formula = if tokens.is_empty() {
+        None
     } else {
-        Content::Formula(tokens)
+        Some(tokens)
     };
     Write {
         place: CellRef { row: 0, col },
-        content,
+        formula,
     }
 }
 
@@ -56,7 +56,7 @@ impl Desk {
     ) -> Result<(), Fail> {
         let write = Write {
             place: CellRef { row: 0, col },
-            content: Content::Formula(tokens),
+            formula: Some(tokens),
         };
         match write_shown(
             self.sheet.as_mut_slice(),

@@ -1,10 +1,11 @@
-use Rattle.std.proofs.Common.{◌≡◌, List, length, vec_items, sym, refl, ap, ◌∙◌, arith}
+use Rattle.std.proofs.Common.{◌≡◌, List, length, vec_items, sym, ap, ◌∙◌, arith}
 use Rattle.formula.specs.declared.token.CellRef.{CellRef}
 use Rattle.evaluate.specs.Values.{value_numbers}
 use Rattle.recalc.specs.Change.{shows}
+use Rattle.recalc.specs.Layout.{cols_in}
 use Rattle.recalc.proofs.Entries.{filled_none}
 use Rattle.recalc.proofs.Rows.{filled_values}
-use Rattle.edit.specs.declared.changes.Changes.{Changes}
+use Rattle.edit.specs.declared.place_list.PlaceList.{PlaceList}
 use Rattle.edit.specs.Places.{places_from}
 use Rattle.edit.specs.Changes.{differs}
 use Rattle.recalc.specs.Showing.{table_shows}
@@ -17,12 +18,12 @@ use Rattle.edit.proofs.values.write_changes.Goals.{then-is_changed, else-is_chan
 
 pub loop-k-init : goal.loop-k-init
 unfolding places_from
-loop-k-init c = (filled_none (λ i. value_numbers (table_shows c.args.table.now i)) 2 c.args.values.now, c.requires.empty, refl)
+loop-k-init c = (filled_none (λ i. value_numbers (table_shows c.args.table.now i)) 2 c.args.values.now, c.requires.empty)
 
-pub add_changed-requires : goal.add_changed-requires
-add_changed-requires c =
+pub add-requires : goal.add-requires
+add-requires c =
     let f = table_differs c.args.table.now c.args.before.now in
-    omega (arith, ap length c.loop-k.invariant.1, places_few c.args.cols f 0 c.loop-k.k, c.requires.few)
+    omega (arith, ap length c.loop-k.invariant.1, places_few (cols_in c.args.sheet.now.nums.now) f 0 c.loop-k.k, c.requires.few)
 
 pub loop-k-preserved : goal.loop-k-preserved
 loop-k-preserved c =
@@ -33,22 +34,19 @@ loop-k-preserved c =
     let f = table_differs t vs in
     let n = length t in
     let inv = c.loop-k.invariant in
-    let listed : Changes → List CellRef = λ x. vec_items x.changed in
-    let other : Changes → List CellRef = λ x. vec_items x.recalculated in
+    let listed : PlaceList → List CellRef = λ x. vec_items x.places in
     let e = c.known_value-value.ensures in
     let tested : f k ≡ differs c.known_value-value.result (shows vs k) = ap (λ v. differs v (shows vs k)) (sym e) in
     elim c.if-is_changed.branch [
       | then-is_changed w ↦ (
         value_written t xs k c.loop-k.values _ n c.loop-k-test.true inv.0 (w.values-is ∙ w.put_value.ensures ∙ ap (with_value c.loop-k.values k) e),
-        ap listed w.changes-is
-            ∙ places_add c.args.cols f k _ _ _ inv.1 w.add_changed.ensures.changed w.place_of.ensures (tested ∙ sym w.if-is_changed.ensures),
-        ap other w.changes-is ∙ w.add_changed.ensures.recalculated ∙ inv.2,
+        ap listed w.list-is
+            ∙ places_add (cols_in c.args.sheet.now.nums.now) f k _ _ _ inv.1 w.add.ensures w.place_of.ensures (tested ∙ sym w.if-is_changed.ensures),
       )
       | else-is_changed w ↦ (
         let d = not_differs _ _ (sym w.if-is_changed.ensures) in
             value_left t vs xs k c.loop-k.values _ n c.loop-k-test.true c.requires.shown inv.0 (sym e ∙ d) w.values-is,
-        ap listed w.changes-is ∙ places_pass c.args.cols f k _ inv.1 (tested ∙ sym w.if-is_changed.ensures),
-        ap other w.changes-is ∙ inv.2,
+        ap listed w.list-is ∙ places_pass (cols_in c.args.sheet.now.nums.now) f k _ inv.1 (tested ∙ sym w.if-is_changed.ensures),
       )
     ]
 

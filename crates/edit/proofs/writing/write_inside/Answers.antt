@@ -1,66 +1,98 @@
-use Rattle.std.proofs.Common.{◌≡◌, ℕ, ◌*◌, ◌<◌, List, ◌++◌, take, drop, is_ok, sym, ap, ◌∙◌, subst, arith}
+use Rattle.std.proofs.Common.{◌≡◌, ℕ, ◌+◌, ◌*◌, ◌<◌, List, ◌++◌, length, drop, is_ok, sym, ap, ◌∙◌, subst, arith}
 use Rattle.evaluate.specs.declared.value.Value.{Value}
-use Rattle.recalc.specs.Change.{shows}
-use Rattle.recalc.specs.Showing.{values_from}
+use Rattle.recalc.specs.declared.size.Size.{Size}
+use Rattle.recalc.specs.Layout.{cols_in}
+use Rattle.recalc.specs.Numbered.{count, sheet_language}
+use Rattle.recalc.specs.Change.{shows, change, Updated}
+use Rattle.recalc.specs.Showing.{values_from, table_shows}
 use Rattle.recalc.specs.Sheets.{sheet_in}
 use Rattle.edit.specs.Writes.{allowed}
 use Rattle.edit.specs.Places.{places_from}
-use Rattle.edit.specs.Values.{value_at, table_differs}
+use Rattle.edit.specs.Values.{value_at, table_differs, formula_marked}
 use Rattle.edit.specs.Memory.{WroteAsked}
 use Rattle.edit.specs.States.{state}
-use Rattle.edit.proofs.Inside.{allowed_is, ok_is, few, some_columns, values_room, number_small, cell_room, count_now, values_read, wrote}
+use Rattle.edit.proofs.Inside.{allowed_is, ok_is, values_room, number_small, cell_room, still_ok, count_now, values_read, wrote}
 use Rattle.edit.proofs.writing.write_inside.Goals as goal
 
-pub note_before-requires : goal.note_before-requires
-note_before-requires c =
-    let xs = c.args.nums.now in
-    let vs = c.args.values.now in
-    record {
-      few = few c.args.write xs vs c.args.size c.requires.sheet c.requires.size;
-      room = values_room c.args.write xs vs c.args.size c.requires.sheet c.requires.size c.requires.shown;
-    }
-
-pub mark-requires : goal.mark-requires
-mark-requires c =
-    let xs = c.args.nums.now in
-    let vs = c.args.values.now in
-    let n = few c.args.write xs vs c.args.size c.requires.sheet c.requires.size in
-    let k = number_small c.args.write xs vs c.args.size c.requires.sheet c.requires.size c.requires.allowed in
-    omega arith
-
-pub put_cell-requires : goal.put_cell-requires
-put_cell-requires c = cell_room c.args.write c.args.nums.now c.args.values.now c.args.size c.requires.sheet c.requires.size c.requires.allowed
-
-pub recalculate-requires : goal.recalculate-requires
-recalculate-requires c =
-    let xs = c.args.nums.now in
-    let vs = c.args.values.now in
-    let v = ok_is (allowed c.args.write (sheet_in xs)) c.requires.allowed in
-    let a = allowed_is c.args.write (sheet_in xs) v.0 v.1 in
-    record {
-      count = count_now c.args.write xs vs c.args.size c.requires.sheet c.requires.size v.0 a c.put_cell.new.nums c.put_cell.ensures;
-      few = few c.args.write xs vs c.args.size c.requires.sheet c.requires.size;
-    }
-
-pub tell-requires : goal.tell-requires
-tell-requires c =
+pub note_before-requires-clause-room : goal.note_before-requires-clause-room
+note_before-requires-clause-room c =
     let w = c.args.write in
     let xs = c.args.nums.now in
     let vs = c.args.values.now in
-    let size = c.args.size in
-    let n = size.rows * size.cols in
+    let ok = c.requires.sheet in
+    let k = w.place.row * c.size.result.cols + w.place.col in
+    let at : k ≡ w.place.row * cols_in xs + w.place.col =
+    ap (λ n. w.place.row * n + w.place.col) (ap (λ (z : Size). z.cols) c.size.ensures.is ∙ ap cols_in c.of-before.ensures) in
+    let n : c.count-n.result ≡ count (sheet_in xs) = c.count-n.ensures.is ∙ ap (λ ys. count (sheet_in ys)) c.of-before.ensures in
+    omega (arith, values_room w xs vs k ok at c.requires.shown, n)
+
+pub put_cell-requires : goal.put_cell-requires
+put_cell-requires c =
+    let w = c.args.write in
+    let xs = c.args.nums.now in
+    let vs = c.args.values.now in
+    let ok = c.requires.sheet in
+    let k = w.place.row * c.size.result.cols + w.place.col in
+    let at : k ≡ w.place.row * cols_in xs + w.place.col =
+    ap (λ n. w.place.row * n + w.place.col) (ap (λ (z : Size). z.cols) c.size.ensures.is ∙ ap cols_in c.of-before.ensures) in
+    cell_room w xs vs k ok at c.requires.allowed
+
+pub of-after-requires : goal.of-after-requires
+of-after-requires c =
+    let w = c.args.write in
+    let xs = c.args.nums.now in
+    let vs = c.args.values.now in
+    let ok = c.requires.sheet in
+    let k = w.place.row * c.size.result.cols + w.place.col in
+    let at : k ≡ w.place.row * cols_in xs + w.place.col =
+    ap (λ n. w.place.row * n + w.place.col) (ap (λ (z : Size). z.cols) c.size.ensures.is ∙ ap cols_in c.of-before.ensures) in
     let v = ok_is (allowed w (sheet_in xs)) c.requires.allowed in
     let a = allowed_is w (sheet_in xs) v.0 v.1 in
-    let bs = c.mark.new.self.before in
-    let read : (i : ℕ) → i < n → shows (take n bs) i ≡ value_at vs i =
-    λ i l. ap (λ (ys : List Value). shows (take n ys) i) c.mark.ensures.before ∙ c.note_before.ensures i l in
-    record {
-      cols = some_columns w xs vs size c.requires.sheet c.requires.size;
-      few = few w xs vs size c.requires.sheet c.requires.size;
-      room = values_room w xs vs size c.requires.sheet c.requires.size c.requires.shown;
-      shown = subst (λ (ys : List Value). vs ≡ values_from (shows (take n ys)) 0 n ++ drop (2 * n) vs) (sym c.recalculate.ensures.before)
-          (values_read w xs vs size c.requires.sheet c.requires.size v.0 a c.put_cell.new.nums c.put_cell.ensures c.requires.shown bs read);
-    }
+    still_ok w xs vs k ok at v.0 a c.put_cell.new.nums c.put_cell.ensures
+
+pub recalculate-requires : goal.recalculate-requires
+recalculate-requires c =
+    let w = c.args.write in
+    let xs = c.args.nums.now in
+    let vs = c.args.values.now in
+    let ok = c.requires.sheet in
+    let k = w.place.row * c.size.result.cols + w.place.col in
+    let at : k ≡ w.place.row * cols_in xs + w.place.col =
+    ap (λ n. w.place.row * n + w.place.col) (ap (λ (z : Size). z.cols) c.size.ensures.is ∙ ap cols_in c.of-before.ensures) in
+    let n : c.count-n.result ≡ count (sheet_in xs) = c.count-n.ensures.is ∙ ap (λ ys. count (sheet_in ys)) c.of-before.ensures in
+    let v = ok_is (allowed w (sheet_in xs)) c.requires.allowed in
+    let a = allowed_is w (sheet_in xs) v.0 v.1 in
+    c.note_before.ensures.count ∙ n ∙ count_now w xs vs k ok at v.0 a c.put_cell.new.nums c.put_cell.ensures ∙ ap (λ ys. count (sheet_in ys)) (sym c.of-after.ensures)
+
+pub tell-requires-clause-room : goal.tell-requires-clause-room
+tell-requires-clause-room c =
+    let w = c.args.write in
+    let xs = c.args.nums.now in
+    let vs = c.args.values.now in
+    let ok = c.requires.sheet in
+    let k = w.place.row * c.size.result.cols + w.place.col in
+    let at : k ≡ w.place.row * cols_in xs + w.place.col =
+    ap (λ n. w.place.row * n + w.place.col) (ap (λ (z : Size). z.cols) c.size.ensures.is ∙ ap cols_in c.of-before.ensures) in
+    let n : c.count-n.result ≡ count (sheet_in xs) = c.count-n.ensures.is ∙ ap (λ ys. count (sheet_in ys)) c.of-before.ensures in
+    omega (arith, values_room w xs vs k ok at c.requires.shown, ap length c.recalculate.ensures.before, c.note_before.ensures.count, n)
+
+pub tell-requires-clause-shown : goal.tell-requires-clause-shown
+tell-requires-clause-shown c =
+    let w = c.args.write in
+    let xs = c.args.nums.now in
+    let vs = c.args.values.now in
+    let ok = c.requires.sheet in
+    let k = w.place.row * c.size.result.cols + w.place.col in
+    let at : k ≡ w.place.row * cols_in xs + w.place.col =
+    ap (λ n. w.place.row * n + w.place.col) (ap (λ (z : Size). z.cols) c.size.ensures.is ∙ ap cols_in c.of-before.ensures) in
+    let n : c.count-n.result ≡ count (sheet_in xs) = c.count-n.ensures.is ∙ ap (λ ys. count (sheet_in ys)) c.of-before.ensures in
+    let v = ok_is (allowed w (sheet_in xs)) c.requires.allowed in
+    let a = allowed_is w (sheet_in xs) v.0 v.1 in
+    let bs = c.recalculate.new.self.cells.before.items in
+    let read : (i : ℕ) → i < count (sheet_in xs) → shows bs i ≡ value_at vs i =
+    λ i l. ap (λ (ys : List Value). shows ys i) c.recalculate.ensures.before ∙ c.note_before.ensures.before i (omega (arith, l, n)) in
+    subst (λ m. vs ≡ values_from (shows bs) 0 m ++ drop (2 * m) vs) (sym (ap length c.recalculate.ensures.before ∙ c.note_before.ensures.count ∙ n))
+    (values_read w xs vs k ok at v.0 a c.put_cell.new.nums c.put_cell.ensures c.requires.shown bs read)
 
 -- whichever write is asked for
 pub returns : goal.returns
@@ -68,21 +100,33 @@ returns c =
     let w = c.args.write in
     let xs = c.args.nums.now in
     let vs = c.args.values.now in
-    let size = c.args.size in
-    let n = size.rows * size.cols in
-    let bs = c.mark.new.self.before in
-    let read : (i : ℕ) → i < n → shows (take n bs) i ≡ value_at vs i =
-    λ i l. ap (λ (ys : List Value). shows (take n ys) i) c.mark.ensures.before ∙ c.note_before.ensures i l in
-    let t = take n c.recalculate.new.self.table in
-    let d = take n c.recalculate.new.self.dirty in
-    let all : WroteAsked w (state xs vs c.args.changes.now) (state c.put_cell.new.nums c.tell.new.values c.tell.new.changes) =
+    let ok = c.requires.sheet in
+    let k = w.place.row * c.size.result.cols + w.place.col in
+    let at : k ≡ w.place.row * cols_in xs + w.place.col =
+    ap (λ n. w.place.row * n + w.place.col) (ap (λ (z : Size). z.cols) c.size.ensures.is ∙ ap cols_in c.of-before.ensures) in
+    let n : c.count-n.result ≡ count (sheet_in xs) = c.count-n.ensures.is ∙ ap (λ ys. count (sheet_in ys)) c.of-before.ensures in
+    let bs = c.note_before.new.self.cells.before.items in
+    let ms = c.note_before.new.self.cells.dirty.items in
+    let t = c.recalculate.new.self.cells.table.items in
+    let d = c.recalculate.new.self.cells.dirty.items in
+    let ys = c.put_cell.new.nums in
+    let read : (i : ℕ) → i < count (sheet_in xs) → shows bs i ≡ value_at vs i = λ i l. c.note_before.ensures.before i (omega (arith, l, n)) in
+    let long = ap length c.recalculate.ensures.before ∙ c.note_before.ensures.count ∙ n in
+    let up = subst (λ zs. Updated (change (sheet_language (sheet_in zs)) bs ms) t d) c.of-after.ensures c.recalculate.ensures.updated in
+    let small = number_small w xs vs k ok at c.requires.allowed in
+    let all : WroteAsked w (state xs vs c.args.changes.now) (state ys c.tell.new.values c.tell.new.changes) =
     λ v e.
-    wrote w xs vs size c.requires.sheet c.requires.size v (allowed_is w (sheet_in xs) v e) c.put_cell.new.nums c.put_cell.ensures c.requires.shown bs read
-    (number_small w xs vs size c.requires.sheet c.requires.size c.requires.allowed) c.mark.new.self.written c.mark.ensures.written
-    t d c.recalculate.ensures.updated
-    c.tell.new.values _ _ _ _ c.tell.ensures.values
-    (c.tell.ensures.changed ∙ ap (λ (ys : List Value). places_from size.cols (table_differs t (take n ys)) 0 n) c.recalculate.ensures.before)
-    c.tell.ensures.recalculated in
+    wrote w xs vs k ok at v (allowed_is w (sheet_in xs) v e) ys c.put_cell.ensures c.requires.shown bs read
+    ms c.note_before.ensures.only (c.note_before.ensures.written (omega (arith, small, n))) t d up
+    c.tell.new.values _ _ _ _
+    (c.tell.ensures.values ∙ ap (λ m. values_from (table_shows t) 0 m ++ drop (2 * m) vs) long)
+    (c.tell.ensures.changed
+    ∙ ap (λ zs. places_from (cols_in zs) (table_differs t c.recalculate.new.self.cells.before.items) 0 (length c.recalculate.new.self.cells.before.items)) c.of-after.ensures
+    ∙ ap (λ (zs : List Value). places_from (cols_in ys) (table_differs t zs) 0 (length c.recalculate.new.self.cells.before.items)) c.recalculate.ensures.before
+    ∙ ap (places_from (cols_in ys) (table_differs t bs) 0) long)
+    (c.tell.ensures.recalculated
+    ∙ ap (λ zs. places_from (cols_in zs) (formula_marked zs d) 0 (length c.recalculate.new.self.cells.before.items)) c.of-after.ensures
+    ∙ ap (places_from (cols_in ys) (formula_marked ys d) 0) long) in
     let v = ok_is (allowed w (sheet_in xs)) c.requires.allowed in
     let done = all v.0 v.1 in
     record { wrote = all; ready = (ap is_ok done.formed, done.shown) }

@@ -4,5 +4,5 @@ use Rattle.recalc.proofs.theory.every_language_is_settled.Goals as goal
 
 pub returns : goal.returns
 returns g c =
-    let ok = g.met.F.Formulas.lawful c.args.f.now c.args.nums.now in
+    let ok = g.met.F.Formulas.lawful c.args.f.now in
     record { settles = settles ok; deeper = deeper ok; only = only_answer ok; cycles = cycle_exactly ok; stays = unchanged_stays ok }
