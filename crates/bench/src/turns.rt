@@ -8,14 +8,6 @@ use edit::{Changes, Room, Write, write_cell};
 use formula::{Cell, CellRef};
 use recalc::{HEADER_LEN, Refusal, show_sheet};
 
-// What a row of values has at an index.
-fn number_at(values: &[u64], index: usize) -> u64 {
-    match values.get(index) {
-        Some(n) => *n,
-        None => 0,
-    }
-}
-
 fn write_turns(
     nums: &mut [u64],
     values: &mut [u64],
@@ -35,7 +27,7 @@ fn write_turns(
             formula: Some(&tokens),
         };
         let _ = write_cell(nums, values, write, room, changes);
-        seen = seen.wrapping_add(number_at(values, last));
+        seen = seen.wrapping_add(values.get(last).copied().unwrap_or(0));
     }
     seen
 }
@@ -53,7 +45,8 @@ pub fn write_each_time(
     Ok(write_turns(nums, values, last, turns, room, changes))
 }
 
-// After each write the whole sheet is shown anew.
+// After each write the whole sheet is shown anew. A loop of its own, and no closure that is handed to one: what `write_cell` asks
+// holds from turn to turn, and the closure would have to carry it.
 pub fn show_each_time(nums: &mut [u64], values: &mut [u64], last: usize, turns: u64) -> u64 {
     let mut seen = 0u64;
     for turn in 0..turns {
@@ -62,7 +55,7 @@ pub fn show_each_time(nums: &mut [u64], values: &mut [u64], last: usize, turns: 
         }
         let _ = Cell::write(&mut nums[HEADER_LEN..], &[0, turn % 2, 0, 0, 0]);
         let _ = show_sheet(nums, values);
-        seen = seen.wrapping_add(number_at(values, last));
+        seen = seen.wrapping_add(values.get(last).copied().unwrap_or(0));
     }
     seen
 }

@@ -17,13 +17,8 @@ struct Desk {
     changes: Changes,
 }
 
-// Into a cell of row 0; without tokens, a blank.
-fn write_of(col: u64, tokens: &[u64]) -> Write<'_> {
-    let formula = if tokens.is_empty() {
-        None
-    } else {
-        Some(tokens)
-    };
+// Into a cell of row 0.
+fn write_of(col: u64, formula: Option<&[u64]>) -> Write<'_> {
     Write {
         place: CellRef { row: 0, col },
         formula,
@@ -54,23 +49,18 @@ impl Desk {
         tokens: &[u64],
         number: u64,
     ) -> Result<(), Fail> {
-        let write = Write {
-            place: CellRef { row: 0, col },
-            formula: Some(tokens),
-        };
-        match write_shown(
+        let write = write_of(col, Some(tokens));
+        let Err(refusal) = write_shown(
             self.sheet.as_mut_slice(),
             &mut self.values,
             write,
             &mut self.room,
             &mut self.changes,
-        ) {
-            Ok(()) => Err(Fail::new("not refused")),
-            Err(refusal) => {
-                assert_eq!(rt; refusal.number(), number);
-                Ok(())
-            },
-        }
+        ) else {
+            return Err(Fail::new("not refused"));
+        };
+        assert_eq!(rt; refusal.number(), number);
+        Ok(())
     }
 
     fn writes(
@@ -81,7 +71,9 @@ impl Desk {
         told: &str,
         worked: &str,
     ) -> Result<(), Fail> {
-        let write = write_of(col, tokens);
+        // Without tokens, a blank.
+        let formula = Some(tokens).filter(|tokens| !tokens.is_empty());
+        let write = write_of(col, formula);
         assert!(rt;
             write_shown(
                 self.sheet.as_mut_slice(),
@@ -100,13 +92,11 @@ impl Desk {
     }
 
     fn shows(&self, rt: &impl Abort, expected: &[u64]) -> Result<(), Fail> {
-        match self.values.get(0..expected.len()) {
-            Some(values) => {
-                assert_eq!(rt; values, expected);
-                Ok(())
-            },
-            None => Err(Fail::new("more than there is")),
-        }
+        let Some(values) = self.values.get(..expected.len()) else {
+            return Err(Fail::new("more than there is"));
+        };
+        assert_eq!(rt; values, expected);
+        Ok(())
     }
 }
 
