@@ -6,3 +6,4 @@ pub mod Memory
 pub mod Values
 pub mod Laws
 pub mod Stair
+pub mod Along

@@ -5,6 +5,7 @@ ghost use Rattle.shift.specs.Lines.{line_from};
 ghost use Rattle.shift.specs.Shifts.{place_from};
 ghost use Rattle.shift.specs.Entries.{size_after, cells_of, Shiftable, origin, first_entry, origin_behind};
 
+use crate::along::Along;
 use crate::shift::{Axis, Change, Shift};
 use formula::CellRef;
 use recalc::Size;
@@ -30,17 +31,8 @@ impl Shift {
         requires { (place.row < 18446744073709551615) × (place.col < 18446744073709551615) }
         ensures { result ≡ place_from None self (λ i j. Some (the_ref i j)) place.row place.col }
     {
-        let line = self.line_before(self.axis.pick(place.row, place.col))?;
-        match self.axis {
-            Axis::Row => Some(CellRef {
-                row: line,
-                col: place.col,
-            }),
-            Axis::Column => Some(CellRef {
-                row: place.row,
-                col: line,
-            }),
-        }
+        let line = self.line_before(place.along(self.axis))?;
+        Some(place.with(self.axis, line))
     }
 
     // The number that the entry had which comes to stand at number k; None in a new line.

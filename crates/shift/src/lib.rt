@@ -1,6 +1,7 @@
 // Rows and columns that come and go: references, ranges, formulas, whole sheets and what they show.
 #![tactic(auto)]
 
+mod along;
 mod before;
 mod cells;
 mod entries;

@@ -2,6 +2,7 @@
 ghost use Rattle.std.specs.Prelude.{◌≡◌};
 ghost use Rattle.shift.specs.Shifts.{by_axis, line_after, span_after, ref_after, range_after};
 
+use crate::along::Along;
 use formula::{CellRef, Range};
 
 #[derive(Clone, Copy)]
@@ -105,40 +106,15 @@ impl Shift {
     pub fn reference_after(self, cell: CellRef) -> Option<CellRef>
         ensures { result ≡ ref_after self cell }
     {
-        let line = self.line_after(self.axis.pick(cell.row, cell.col))?;
-        match self.axis {
-            Axis::Row => Some(CellRef {
-                row: line,
-                col: cell.col,
-            }),
-            Axis::Column => Some(CellRef {
-                row: cell.row,
-                col: line,
-            }),
-        }
+        let line = self.line_after(cell.along(self.axis))?;
+        Some(cell.with(self.axis, line))
     }
 
     // Where a range is afterwards; None if it had the deleted line and no other.
     pub fn range_after(self, range: Range) -> Option<Range>
         ensures { result ≡ range_after self range }
     {
-        let span = self.span_after(Span {
-            first: self.axis.pick(range.row, range.col),
-            count: self.axis.pick(range.rows, range.cols),
-        })?;
-        match self.axis {
-            Axis::Row => Some(Range {
-                row: span.first,
-                rows: span.count,
-                col: range.col,
-                cols: range.cols,
-            }),
-            Axis::Column => Some(Range {
-                row: range.row,
-                rows: range.rows,
-                col: span.first,
-                cols: span.count,
-            }),
-        }
+        let span = self.span_after(range.along(self.axis))?;
+        Some(range.with(self.axis, span))
     }
 }

@@ -3,7 +3,8 @@ ghost use Rattle.std.specs.Prelude.{◌≡◌};
 ghost use Rattle.shift.specs.Entries.{size_after, Shiftable};
 ghost use Rattle.shift.specs.Sheets.{shift_allowed};
 
-use crate::shift::{Axis, Change, Shift};
+use crate::along::Along;
+use crate::shift::{Change, Shift};
 use recalc::{Refusal, Size};
 
 impl Shift {
@@ -11,8 +12,8 @@ impl Shift {
     pub fn check(self, size: Size, most: Size) -> Result<(), Refusal>
         ensures { result ≡ shift_allowed self size most }
     {
-        let lines = self.axis.pick(size.rows, size.cols);
-        let most = self.axis.pick(most.rows, most.cols);
+        let lines = size.along(self.axis);
+        let most = most.along(self.axis);
         match self.change {
             Change::Insert if self.line > lines => Err(Refusal::NoLine),
             Change::Insert if lines >= most => Err(Refusal::Full),
@@ -27,20 +28,11 @@ impl Shift {
         requires { Shiftable self size }
         ensures { result ≡ size_after self size }
     {
-        let lines = self.axis.pick(size.rows, size.cols);
-        let lines = match self.change {
+        let lines = size.along(self.axis);
+        let left = match self.change {
             Change::Insert => lines + 1,
             Change::Delete => lines - 1,
         };
-        match self.axis {
-            Axis::Row => Size {
-                rows: lines,
-                cols: size.cols,
-            },
-            Axis::Column => Size {
-                rows: size.rows,
-                cols: lines,
-            },
-        }
+        size.with(self.axis, left)
     }
 }
