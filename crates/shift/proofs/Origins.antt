@@ -15,7 +15,7 @@ use Rattle.shift.specs.declared.shift.Change.TheVariants.{Insert, Delete}
 use Rattle.shift.specs.declared.shift.Shift.{Shift}
 use Rattle.shift.specs.Lines.{count_to, line_from}
 use Rattle.shift.specs.Shifts.{the_shift, by_axis, place_from, rows_after, cols_after}
-use Rattle.shift.specs.Entries.{size_after, cells_of, coming, LineThere, Shiftable, origin, first_entry, origin_behind, entry_or_zeros, Within}
+use Rattle.shift.specs.Entries.{size_after, cells_of, coming, LineThere, Shiftable, origin, first_entry, left_behind, most_behind, origin_behind, entry_or_zeros, Within}
 
 -- line n came to be line i
 abbrev pub Came : Change → ℕ → ℕ → ℕ → Type 0
@@ -312,43 +312,40 @@ toward_behind : (h : Change) (j k f i : ℕ) → Toward h j k → k ≡ f + i �
 toward_behind Insert j k f i t e l = omega arith
 toward_behind Delete j k f i t e l = omega arith
 
--- what is needed to put entry i of those from the line on
+-- what is needed to put entry i of those from the line on, in a part of n numbers
 pub record Behind (d : Shift) (size : Size) (len n i : ℕ) : Type 0 where
   pub within : Within len (origin_behind d size i) n
   pub comes : Comes d.change (origin_behind d size i) i
-  pub small : i < max_cells
+  pub room : len * i + len ≤ n
 
-pub behinds : (d : Shift) (size : Size) (len n i : ℕ) → Shiftable d size → i < cells_of (size_after d size) - first_entry d size → len * (cells_of size - first_entry d size) ≤ n
-    → Behind d size len n i
+-- a whole entry before number m
+entry_fits : (len j m n : ℕ) → j < m → len * m ≤ n → len * j + len ≤ n
+entry_fits len j m n l room = omega (arith, mul-suc len j, mul-le-mul_left len l)
+
+pub behinds : (d : Shift) (size : Size) (len n i : ℕ) → Shiftable d size → i < left_behind d size → len * most_behind d size ≤ n → Behind d size len n i
 behinds d size len n i s l room = go (origins d size (first + i) s (omega arith))
   where
     first : ℕ
     first = first_entry d size
 
-    few : (cells_of size ≤ max_cells) × (cells_of (size_after d size) ≤ max_cells)
-    few = few_cells d size s
+    few : cells_of size ≤ max_cells
+    few = (few_cells d size s).0
+
+    fits : len * i + len ≤ n
+    fits = entry_fits len i (most_behind d size) n (omega arith) room
 
     go : ((j : ℕ) × Origin d size (first + i) j) ⊎ ((origin d size (first + i) ≡ None) × (d.change ≡ Insert)) → Behind d size len n i
     go (inl (j, o)) =
         let b : first ≤ j = o.behind (omega arith) in
         let is : origin_behind d size i ≡ Some (j - first) = ap (option_map (λ k. k - first)) o.is in
-        let most : suc (j - first) ≤ cells_of size - first = let q = o.inside in omega arith in
-        let fits : len * (j - first) + len ≤ n = omega (arith, mul-suc len (j - first), mul-le-mul_left len most) in
+        let q = o.inside in
         record {
-          within = rw is (let q = o.inside in let r = few.0 in omega arith, fits);
+          within = rw is (let f = few in omega arith, entry_fits len (j - first) (most_behind d size) n (omega arith) room);
           comes = rw is (toward_behind d.change j (first + i) first i o.toward refl b);
-          small = let r = few.1 in omega arith;
+          room = fits;
         }
-    go (inr (e, h)) = let is : origin_behind d size i ≡ None = ap (option_map (λ k. k - first)) e in record { within = rw is tt; comes = rw is tt; small = let r = few.1 in omega arith }
+    go (inr (e, h)) = let is : origin_behind d size i ≡ None = ap (option_map (λ k. k - first)) e in record { within = rw is tt; comes = rw is tt; room = fits }
 
--- where a line was inserted there is room for all that was there
-pub room_inserted : (d : Shift) (size : Size) (len n : ℕ) → Shiftable d size → d.change ≡ Insert → len * (cells_of (size_after d size) - first_entry d size) ≤ n
-    → len * (cells_of size - first_entry d size) ≤ n
-room_inserted d size len n s e room =
-    let t : cells_of size ≤ cells_of (size_after d size) = subst (λ h. Toward h (cells_of size) (cells_of (size_after d size))) e (cells_toward d size s) in
-    let l : cells_of size - first_entry d size ≤ cells_of (size_after d size) - first_entry d size = omega arith in
-    omega (arith, mul-le-mul_left len l)
-
--- where a line was deleted there is no more left than was there
-pub left_deleted : (d : Shift) (size : Size) → Shiftable d size → d.change ≡ Delete → cells_of (size_after d size) ≤ cells_of size
-left_deleted d size s e = subst (λ h. Toward h (cells_of size) (cells_of (size_after d size))) e (cells_toward d size s)
+-- an entry that comes from another one, which is whole
+pub whole_origin : (d : Shift) (size : Size) (len n i j : ℕ) → Shiftable d size → i < left_behind d size → len * most_behind d size ≤ n → origin_behind d size i ≡ Some j → len * j + len ≤ n
+whole_origin d size len n i j s l room e = (subst (λ o. Within len o n) e (behinds d size len n i s l room).within).1

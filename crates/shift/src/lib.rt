@@ -2,15 +2,14 @@
 #![tactic(auto)]
 
 mod along;
-mod before;
 mod cells;
 mod entries;
 mod laws;
 mod memory;
 mod moves;
+mod reshape;
 mod sheet;
 mod shift;
-mod size;
 mod values;
 
 pub use laws::{
@@ -18,6 +17,7 @@ pub use laws::{
     stair_shifts,
 };
 pub use memory::shift_memory;
+pub use reshape::Reshape;
 pub use sheet::shift_sheet;
 pub use shift::{Axis, Change, Shift, Span};
 pub use values::insert_values;

@@ -1,9 +1,12 @@
 // A row or a column that is inserted or deleted: where lines, references and ranges are afterwards.
-ghost use Rattle.std.specs.Prelude.{◌≡◌};
+ghost use Rattle.std.specs.Prelude.{◌≡◌, ◌<◌, Some, None};
+ghost use Rattle.shift.specs.Lines.{line_from};
 ghost use Rattle.shift.specs.Shifts.{by_axis, line_after, span_after, ref_after, range_after};
+ghost use Rattle.shift.specs.Sheets.{shift_allowed};
 
 use crate::along::Along;
 use formula::{CellRef, Range};
+use recalc::{Refusal, Size};
 
 #[derive(Clone, Copy)]
 pub enum Axis {
@@ -70,6 +73,21 @@ impl Shift {
         }
     }
 
+    // Where line n was; None if it is new.
+    pub(crate) fn line_before(self, n: u64) -> Option<u64>
+        requires { n < u64.MAX }
+        ensures { result ≡ line_from None self.change self.line Some n }
+    {
+        if n < self.line {
+            return Some(n);
+        }
+        match self.change {
+            Change::Insert if n == self.line => None,
+            Change::Insert => Some(n - 1),
+            Change::Delete => Some(n + 1),
+        }
+    }
+
     // Where the lines of a span are afterwards, and how many; None if their only line was deleted.
     pub fn span_after(self, span: Span) -> Option<Span>
         ensures { result ≡ span_after self span }
@@ -116,5 +134,20 @@ impl Shift {
     {
         let span = self.span_after(range.along(self.axis))?;
         Some(range.with(self.axis, span))
+    }
+
+    // The first refusal that applies, where there may be as many rows and columns as `most` says.
+    pub fn check(self, size: Size, most: Size) -> Result<(), Refusal>
+        ensures { result ≡ shift_allowed self size most }
+    {
+        let lines = size.along(self.axis);
+        let most = most.along(self.axis);
+        match self.change {
+            Change::Insert if self.line > lines => Err(Refusal::NoLine),
+            Change::Insert if lines >= most => Err(Refusal::Full),
+            Change::Delete if self.line >= lines => Err(Refusal::NoLine),
+            Change::Delete if lines <= 1 => Err(Refusal::OnlyLine),
+            _ => Ok(()),
+        }
     }
 }
