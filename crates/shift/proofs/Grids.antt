@@ -1,8 +1,8 @@
 -- A whole grid of entries after a shift, from what its parts became. Assumes nothing.
-use Rattle.std.proofs.Common.{◌≡◌, ℕ, zero, suc, ◌+◌, ◌-◌, ◌*◌, ◌<◌, ◌≤◌, max, ◌⊎◌, List, [], ◌∷◌, ◌++◌, length, take, drop, replicate, None, sym, refl, ap, ◌∙◌, inl, inr, mul-le-mul_left, mul-zero, mul-suc, mul-add, arith, length-drop}
+use Rattle.std.proofs.Common.{◌≡◌, ℕ, zero, suc, ◌+◌, ◌-◌, ◌*◌, ◌<◌, ◌≤◌, max, ◌⊎◌, List, ◌++◌, length, take, drop, replicate, None, sym, ap, ◌∙◌, inl, inr, mul-le-mul_left, mul-zero, mul-suc, mul-add, arith, length-drop}
 use borrow.Rule.Slice.PartMut.{put_mid}
 use Rattle.std.specs.Option.{option_map}
-use Rattle.std.proofs.lemmas.List.{append_assoc, append-nil, take_at, drop-drop, drop_all}
+use Rattle.std.proofs.lemmas.List.{append_assoc, append-nil, take_at, drop-drop, drop_all, drop-take, take-append-drop, take-take}
 use Rattle.std.proofs.lemmas.Slice.{drop-append-drop}
 use Rattle.recalc.specs.declared.size.Size.{Size}
 use Rattle.recalc.specs.Entries.{entry, entries_from}
@@ -14,13 +14,7 @@ use Rattle.shift.proofs.Origins.{Origin, origins, kept_before, coming_is, first_
 use Rattle.shift.proofs.Placed.{entry_long}
 
 take_sum : (a b : ℕ) (xs : List ℕ) → take (a + b) xs ≡ take a xs ++ take b (drop a xs)
-take_sum zero b xs = let e : 0 + b ≡ b = omega arith in rw e
-take_sum (suc a) b [] = let e : suc a + b ≡ suc (a + b) = omega arith in rw e (none b)
-  where
-    none : (n : ℕ) → [] ≡ take {A = ℕ} n []
-    none zero = refl
-    none (suc n) = refl
-take_sum (suc a) b (x ∷ xs) = let e : suc a + b ≡ suc (a + b) = omega arith in rw e (ap (λ ys. x ∷ ys) (take_sum a b xs))
+take_sum a b xs = sym (take-append-drop a (take (a + b) xs)) ∙ ap (λ ys. ys ++ drop a (take (a + b) xs)) (take-take a (a + b) xs (omega arith)) ∙ ap (λ ys. take a xs ++ ys) (drop-take a b xs)
 
 -- the entries of a row are what it begins with
 front_entries : (len n : ℕ) (xs : List ℕ) → entries_from (λ k. entry len k xs) 0 n ≡ take (len * n) xs

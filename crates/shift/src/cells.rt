@@ -21,6 +21,7 @@ pub fn shift_cells(cells: &mut [u64], count: usize, shift: Shift)
     requires { (count ≤ max_cells) × (cell_len * count ≤ length cells.old) }
     ensures { cells.new ≡ shifted_cells shift (λ k. entry cell_len k cells.old) count (drop (cell_len * count) cells.old) }
 {
+    // By number: of what a slice ends as behind `chunks_exact_mut`, a proof knows the length alone.
     for k in 0..count {
         let from = CELL_LEN * k;
         shift_cell(&mut cells[from..from + CELL_LEN], shift);

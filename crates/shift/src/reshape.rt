@@ -1,9 +1,9 @@
 // A shift of a grid that it fits: how large the grid is afterwards, and where its entries came from.
-ghost use Rattle.std.specs.Prelude.{◌≡◌, ◌-◌, ◌<◌, ◌≤◌, max, Some, None};
+ghost use Rattle.std.specs.Prelude.{◌≡◌, ◌<◌, ◌≤◌, max, Some, None};
 ghost use Rattle.formula.specs.Tokens.{the_ref};
 ghost use Rattle.evaluate.specs.Limits.{max_cells};
 ghost use Rattle.shift.specs.Shifts.{rows_after, cols_after, place_from};
-ghost use Rattle.shift.specs.Entries.{size_after, cells_of, Shiftable, Shiftable-prop, origin, first_entry, origin_behind};
+ghost use Rattle.shift.specs.Entries.{size_after, cells_of, Shiftable, Shiftable-prop, origin, first_entry, left_behind, origin_behind};
 
 use crate::along::Along;
 use crate::shift::{Axis, Change, Shift};
@@ -65,7 +65,7 @@ impl Reshape {
 
     // How many entries there are afterwards from the first of the line on.
     pub(crate) fn entries_behind(self) -> usize
-        ensures { result ≡ cells_of (size_after self.shift self.size) - first_entry self.shift self.size }
+        ensures { result ≡ left_behind self.shift self.size }
     {
         self.entries_after() - self.first_entry()
     }
@@ -95,7 +95,7 @@ impl Reshape {
 
     // As `origin`, with the entries counted from the first of the line on.
     pub(crate) fn origin_behind(self, i: usize) -> Option<usize>
-        requires { i < cells_of (size_after self.shift self.size) - first_entry self.shift self.size }
+        requires { i < left_behind self.shift self.size }
         ensures { result ≡ origin_behind self.shift self.size i }
     {
         let first = self.first_entry();

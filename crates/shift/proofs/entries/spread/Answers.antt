@@ -1,5 +1,5 @@
 use Rattle.std.proofs.Common.{◌-◌, arith}
-use Rattle.shift.proofs.Placed.{spread_none, spread_more, spread_all}
+use Rattle.shift.proofs.Placed.{spread_none, spread_more}
 use Rattle.shift.proofs.entries.spread.Goals as goal
 
 pub loop-i-init : goal.loop-i-init
@@ -9,6 +9,3 @@ pub loop-i-preserved : goal.loop-i-preserved
 loop-i-preserved g c =
     spread_more g.row.LEN c.args.reshape.shift c.args.reshape.size c.args.part.now c.args.reshape.shiftable c.requires.room (c.loop-i.i - 1) c.loop-i.i c.loop-i.part c.put_entry.new.part
     c.requires.change (omega arith) (omega (arith, c.entries_behind-i.ensures)) c.loop-i.invariant c.put_entry.ensures
-
-pub returns : goal.returns
-returns g c = spread_all g.row.LEN c.args.reshape.shift c.args.reshape.size c.args.part.now c.loop-i.i c.loop-i.part (omega arith) c.loop-i.invariant

@@ -4,12 +4,6 @@ use Rattle.shift.specs.Entries.{cells_of, size_after}
 use Rattle.shift.proofs.Memories.{moved_then_shifted}
 use Rattle.shift.proofs.memory.shift_grid.Goals as goal
 
-pub shift_cells-requires : goal.shift_cells-requires
-shift_cells-requires c =
-    let left = cells_of (size_after c.args.reshape.shift c.args.reshape.size) in
-    let more : left ≤ max (cells_of c.args.reshape.size) left = omega arith in
-    (omega (arith, c.entries_after.ensures.1), omega (arith, c.entries_after.ensures.0, mul-le-mul_left cell_len more))
-
 pub returns : goal.returns
 returns c =
     let d = c.args.reshape.shift in

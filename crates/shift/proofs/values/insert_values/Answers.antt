@@ -1,18 +1,10 @@
-use Rattle.std.proofs.Common.{◌≡◌, ◌≤◌, sym, subst, arith}
+use Rattle.std.proofs.Common.{◌≡◌, sym, subst}
 use Rattle.recalc.specs.Showing.{ShownIn}
-use Rattle.shift.specs.Entries.{size_after, cells_of, shifted_entries, Shiftable}
+use Rattle.shift.specs.Entries.{shifted_entries, Shiftable}
 use Rattle.shift.specs.Sheets.{shifted}
 use Rattle.shift.specs.Values.{value_len}
-use Rattle.shift.proofs.Origins.{Toward, cells_toward}
 use Rattle.shift.proofs.ShownRow.{inserted_shown}
 use Rattle.shift.proofs.values.insert_values.Goals as goal
-
-pub shift_entries-requires : goal.shift_entries-requires
-shift_entries-requires c =
-    let d = c.args.reshape.shift in
-    let size = c.args.reshape.size in
-    let more : cells_of size ≤ cells_of (size_after d size) = subst (λ h. Toward h (cells_of size) (cells_of (size_after d size))) c.requires.change (cells_toward d size c.args.reshape.shiftable) in
-    record { room = omega (arith, c.requires.room) }
 
 pub returns : goal.returns
 returns c =
