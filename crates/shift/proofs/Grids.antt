@@ -9,7 +9,7 @@ use Rattle.recalc.specs.Entries.{entry, entries_from}
 use Rattle.recalc.proofs.Entries.{entries_length, same_entries, entries_split, entries_push, entries_again}
 use Rattle.shift.specs.declared.shift.Change.TheVariants.{Insert}
 use Rattle.shift.specs.declared.shift.Shift.{Shift}
-use Rattle.shift.specs.Entries.{size_after, cells_of, coming, Shiftable, origin, first_entry, most_behind, origin_behind, entry_or_zeros, Within, placed, shifted_entries}
+use Rattle.shift.specs.Entries.{size_after, cells_of, coming, Shiftable, origin, first_entry, origin_behind, entry_or_zeros, Within, placed, shifted_entries}
 use Rattle.shift.proofs.Origins.{Origin, origins, kept_before, coming_is, first_left, few_cells}
 use Rattle.shift.proofs.Placed.{entry_long}
 
@@ -100,13 +100,3 @@ module _ (len : ℕ) (d : Shift) (size : Size) (xs : List ℕ) (s : Shiftable d 
 -- a part from number f on, written back
 pub put_behind : (f : ℕ) (xs part : List ℕ) → f ≤ length xs → put_mid f (length xs - f) xs part ≡ take f xs ++ part
 put_behind f xs part l = ap (λ ys. take f xs ++ (part ++ ys)) (drop_all (length xs - f) (drop f xs) (simp length-drop (omega arith))) ∙ ap (λ ys. take f xs ++ ys) (append-nil part)
-
--- the part that a shift of a grid in a row of n numbers writes to begins there, and has room for what it holds
-pub cut : (len : ℕ) (d : Shift) (size : Size) (n f : ℕ) → Shiftable d size → len * max (cells_of size) (cells_of (size_after d size)) ≤ n → f ≡ first_entry d size
-    → (len * f ≤ n) × (len * most_behind d size ≤ n - len * f)
-cut len d size n f s room e =
-    let left = first_left d size s in
-    let sum : f + most_behind d size ≤ max (cells_of size) (cells_of (size_after d size)) = omega arith in
-    let whole : len * (f + most_behind d size) ≤ len * max (cells_of size) (cells_of (size_after d size)) = mul-le-mul_left len sum in
-    let parts : len * (f + most_behind d size) ≡ len * f + len * most_behind d size = mul-add len f (most_behind d size) in
-    (omega arith, omega arith)

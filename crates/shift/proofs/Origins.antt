@@ -1,6 +1,5 @@
 -- Where an entry of a shifted grid came from. Assumes nothing.
-use Rattle.std.proofs.Common.{◌≡◌, ℕ, zero, suc, ◌+◌, ◌-◌, ◌*◌, ◌/◌, ◌%◌, ◌<◌, ◌≤◌, Bool, true, false, cond, eqb, ltb, ◌⊎◌, List, Some, None, Option, sym, refl, ap, ◌∙◌, subst, inl, inr, mul-le-mul_left, mul-suc, arith}
-use Rattle.std.specs.Option.{option_map}
+use Rattle.std.proofs.Common.{◌≡◌, ℕ, zero, suc, ◌+◌, ◌-◌, ◌*◌, ◌/◌, ◌%◌, ◌<◌, ◌≤◌, Bool, true, false, cond, eqb, ltb, ◌⊎◌, List, Some, None, sym, refl, ap, ◌∙◌, inl, inr, arith}
 use Rattle.std.proofs.lemmas.Bool.Decides.{nat_tests}
 use Rattle.std.proofs.lemmas.Bool.{cases_lt, cases_order}
 use Rattle.std.proofs.lemmas.Nat.{mul-le, mul-add-lt, div-add-mod', div_below, mod_below}
@@ -15,7 +14,7 @@ use Rattle.shift.specs.declared.shift.Change.TheVariants.{Insert, Delete}
 use Rattle.shift.specs.declared.shift.Shift.{Shift}
 use Rattle.shift.specs.Lines.{count_to, line_from}
 use Rattle.shift.specs.Shifts.{the_shift, by_axis, place_from, rows_after, cols_after}
-use Rattle.shift.specs.Entries.{size_after, cells_of, coming, LineThere, Shiftable, origin, first_entry, left_behind, most_behind, origin_behind, entry_or_zeros, Within}
+use Rattle.shift.specs.Entries.{size_after, cells_of, coming, LineThere, Shiftable, origin, first_entry, entry_or_zeros}
 
 -- line n came to be line i
 abbrev pub Came : Change → ℕ → ℕ → ℕ → Type 0
@@ -299,53 +298,6 @@ cells_toward d size s = go d.axis d.change
     go Column Insert = mul-le size.rows size.cols size.rows (size.cols + 1) (omega arith) (omega arith)
     go Column Delete = mul-le size.rows (size.cols - 1) size.rows size.cols (omega arith) (omega arith)
 
--- an entry that comes to stand at number i, if any, comes from there or from where the change pushes entries away from
-abbrev pub Comes : Change → Option ℕ → ℕ → Type 0
-Comes h None i = Unit {0}
-Comes h (Some j) i = Toward h j i
-
 pub few_cells : (d : Shift) (size : Size) → Shiftable d size → (cells_of size ≤ max_cells) × (cells_of (size_after d size) ≤ max_cells)
 few_cells d size s =
     (mul-le size.rows size.cols max_rows max_columns s.few_rows s.few_cols, mul-le (rows_after d size.rows) (cols_after d size.cols) max_rows max_columns s.rows_left s.cols_left)
-
-toward_behind : (h : Change) (j k f i : ℕ) → Toward h j k → k ≡ f + i → f ≤ j → Toward h (j - f) i
-toward_behind Insert j k f i t e l = omega arith
-toward_behind Delete j k f i t e l = omega arith
-
--- what is needed to put entry i of those from the line on, in a part of n numbers
-pub record Behind (d : Shift) (size : Size) (len n i : ℕ) : Type 0 where
-  pub within : Within len (origin_behind d size i) n
-  pub comes : Comes d.change (origin_behind d size i) i
-  pub room : len * i + len ≤ n
-
--- a whole entry before number m
-entry_fits : (len j m n : ℕ) → j < m → len * m ≤ n → len * j + len ≤ n
-entry_fits len j m n l room = omega (arith, mul-suc len j, mul-le-mul_left len l)
-
-pub behinds : (d : Shift) (size : Size) (len n i : ℕ) → Shiftable d size → i < left_behind d size → len * most_behind d size ≤ n → Behind d size len n i
-behinds d size len n i s l room = go (origins d size (first + i) s (omega arith))
-  where
-    first : ℕ
-    first = first_entry d size
-
-    few : cells_of size ≤ max_cells
-    few = (few_cells d size s).0
-
-    fits : len * i + len ≤ n
-    fits = entry_fits len i (most_behind d size) n (omega arith) room
-
-    go : ((j : ℕ) × Origin d size (first + i) j) ⊎ ((origin d size (first + i) ≡ None) × (d.change ≡ Insert)) → Behind d size len n i
-    go (inl (j, o)) =
-        let b : first ≤ j = o.behind (omega arith) in
-        let is : origin_behind d size i ≡ Some (j - first) = ap (option_map (λ k. k - first)) o.is in
-        let q = o.inside in
-        record {
-          within = rw is (let f = few in omega arith, entry_fits len (j - first) (most_behind d size) n (omega arith) room);
-          comes = rw is (toward_behind d.change j (first + i) first i o.toward refl b);
-          room = fits;
-        }
-    go (inr (e, h)) = let is : origin_behind d size i ≡ None = ap (option_map (λ k. k - first)) e in record { within = rw is tt; comes = rw is tt; room = fits }
-
--- an entry that comes from another one, which is whole
-pub whole_origin : (d : Shift) (size : Size) (len n i j : ℕ) → Shiftable d size → i < left_behind d size → len * most_behind d size ≤ n → origin_behind d size i ≡ Some j → len * j + len ≤ n
-whole_origin d size len n i j s l room e = (subst (λ o. Within len o n) e (behinds d size len n i s l room).within).1

@@ -2,13 +2,12 @@
 use Rattle.std.proofs.Common.{◌≡◌, ℕ, suc, ◌+◌, ◌-◌, ◌*◌, ◌<◌, ◌≤◌, List, ◌++◌, length, take, drop, Some, None, Option, sym, refl, ap, ◌∙◌, subst, mul-le-mul_left, mul-zero, mul-suc, arith, length-drop, length-take}
 use lib.ListN.{length-replicate}
 use Rattle.std.proofs.lemmas.List.{append_assoc, drop_at, take-take, take-append-le, take-append-drop, length-take-le}
-use Rattle.recalc.specs.declared.size.Size.{Size}
 use Rattle.recalc.specs.Entries.{entry, entries_from}
 use Rattle.recalc.proofs.Entries.{part_front, entry_behind, entries_length, FilledTo, filled_more}
 use Rattle.shift.specs.declared.shift.Change.TheVariants.{Insert, Delete}
-use Rattle.shift.specs.declared.shift.Shift.{Shift}
-use Rattle.shift.specs.Entries.{Shiftable, Within, left_behind, most_behind, origin_behind, entry_or_zeros, placed}
-use Rattle.shift.proofs.Origins.{Comes, behinds}
+use Rattle.shift.specs.declared.reshape.Reshape.{Reshape}
+use Rattle.shift.specs.Entries.{Within, left_behind, most_behind, origin_behind, entry_or_zeros, placed}
+use Rattle.shift.proofs.Behind.{Comes, behinds}
 
 -- an entry of a row that begins as another does
 entry_front : (len j n : ℕ) (xs rest : List ℕ) → len * j + len ≤ n → n ≤ length xs → entry len j (take n xs ++ rest) ≡ entry len j xs
@@ -19,13 +18,13 @@ pub entry_long : (len : ℕ) (o : Option ℕ) (xs : List ℕ) → Within len o (
 entry_long len None xs w = length-replicate len 0
 entry_long len (Some j) xs w = let l = w.1 in length-take-le len (drop (len * j) xs) (simp length-drop (omega arith))
 
-module _ (len : ℕ) (d : Shift) (size : Size) (xs : List ℕ) where
+module _ (len : ℕ) (r : Reshape) (xs : List ℕ) where
   abbrev from : ℕ → Option ℕ
-  from = origin_behind d size
+  from = origin_behind r.shift r.size
 
   -- how many entries there are to put
   abbrev m : ℕ
-  m = left_behind d size
+  m = left_behind r.shift r.size
 
   -- what comes to stand at number i
   abbrev pub put : ℕ → List ℕ
@@ -58,20 +57,20 @@ module _ (len : ℕ) (d : Shift) (size : Size) (xs : List ℕ) where
   abbrev Put : ℕ → List ℕ → List ℕ → Type 0
   Put i now next = next ≡ take (len * i) now ++ (entry_or_zeros len (from i) now ++ drop (len * i + len) now)
 
-  module _ (s : Shiftable d size) (room : len * most_behind d size ≤ length xs) where
-    pub spread_more : (i k : ℕ) (now next : List ℕ) → d.change ≡ Insert → k ≡ suc i → i < m → SpreadTo k now → Put i now next → SpreadTo i next
+  module _ (room : len * most_behind r.shift r.size ≤ length xs) where
+    pub spread_more : (i k : ℕ) (now next : List ℕ) → r.shift.change ≡ Insert → k ≡ suc i → i < m → SpreadTo k now → Put i now next → SpreadTo i next
     unfolding entries_from
     spread_more i k now next h n l q p =
         let rest = entries_from put (suc i) (m - suc i) ++ drop (len * m) xs in
         let e : SpreadTo (suc i) now = subst (λ k. SpreadTo k now) n q in
-        let fits : len * suc i ≤ length xs = omega (arith, mul-suc len i, (behinds d size len (length xs) i s l room).room) in
+        let fits : len * suc i ≤ length xs = omega (arith, mul-suc len i, (behinds r len (length xs) i l room).room) in
         let more = mul-suc len i in
         let front : take (len * i) now ≡ take (len * i) xs =
         ap (take (len * i)) e ∙ take-append-le (len * i) (take (len * suc i) xs) rest (simp length-take (omega arith)) ∙ take-take (len * i) (len * suc i) xs (omega arith) in
         let back : drop (len * i + len) now ≡ rest =
         ap (drop (len * i + len)) e ∙ drop_at (take (len * suc i) xs) rest (len * i + len) (length-take-le (len * suc i) xs fits ∙ omega arith) in
         let here : entry_or_zeros len (from i) now ≡ put i =
-        came (from i) (subst (λ h. Comes h (from i) i) h (behinds d size len (length xs) i s l room).comes)
+        came (from i) (subst (λ h. Comes h (from i) i) h (behinds r len (length xs) i l room).comes)
         (λ j h. ap (entry len j) e ∙ entry_front len j (len * suc i) xs rest (omega (arith, mul-le-mul_left len h)) fits) in
         let one : m - i ≡ suc (m - suc i) = omega arith in
         p
@@ -85,12 +84,12 @@ module _ (len : ℕ) (d : Shift) (size : Size) (xs : List ℕ) where
         came None b h = refl
         came (Some j) b h = h j b
 
-    pub gathered_more : (i k : ℕ) (now next : List ℕ) → d.change ≡ Delete → k ≡ suc i → i < m → GatheredTo i now → Put i now next → GatheredTo k next
+    pub gathered_more : (i k : ℕ) (now next : List ℕ) → r.shift.change ≡ Delete → k ≡ suc i → i < m → GatheredTo i now → Put i now next → GatheredTo k next
     gathered_more i k now next h n l e p =
-        let long : (k : ℕ) → k < m → length (put k) ≡ len = λ k l. entry_long len (from k) xs (behinds d size len (length xs) k s l room).within in
+        let long : (k : ℕ) → k < m → length (put k) ≡ len = λ k l. entry_long len (from k) xs (behinds r len (length xs) k l room).within in
         let done = entries_length put len m long 0 i (omega arith) in
         let here : entry_or_zeros len (from i) now ≡ put i =
-        came (from i) (subst (λ h. Comes h (from i) i) h (behinds d size len (length xs) i s l room).comes)
+        came (from i) (subst (λ h. Comes h (from i) i) h (behinds r len (length xs) i l room).comes)
         (λ j h. ap (entry len j) e ∙ entry_behind len j (len * i) (entries_from put 0 i) xs done (mul-le-mul_left len h)) in
         subst (λ k. GatheredTo k next) (sym n) (filled_more put len m long xs i now next l e (p ∙ ap (λ ys. take (len * i) now ++ (ys ++ drop (len * i + len) now)) here))
       where

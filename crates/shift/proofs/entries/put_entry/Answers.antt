@@ -1,14 +1,14 @@
 use Rattle.std.proofs.Common.{◌≡◌, ◌+◌, ◌*◌, ◌++◌, length, take, drop, Some, sym, ap, ◌∙◌}
 use Rattle.recalc.proofs.Entries.{around_entry}
 use Rattle.shift.specs.Entries.{origin_behind, entry_or_zeros}
-use Rattle.shift.proofs.Origins.{behinds, whole_origin}
+use Rattle.shift.proofs.Behind.{behinds, whole_origin}
 use Rattle.shift.proofs.entries.put_entry.Goals as goal
 
 pub copy_entry-requires : goal.copy_entry-requires
 copy_entry-requires g c =
     let room = length c.args.part.now in (
-      whole_origin c.args.reshape.shift c.args.reshape.size g.row.LEN room c.args.to c.in-Some.from c.args.reshape.shiftable c.requires.left c.requires.room (sym c.origin_behind.ensures ∙ c.in-Some.is),
-      (behinds c.args.reshape.shift c.args.reshape.size g.row.LEN room c.args.to c.args.reshape.shiftable c.requires.left c.requires.room).room,
+      whole_origin c.args.reshape g.row.LEN room c.args.to c.in-Some.from c.requires.left c.requires.room (sym c.origin_behind.ensures ∙ c.in-Some.is),
+      (behinds c.args.reshape g.row.LEN room c.args.to c.requires.left c.requires.room).room,
     )
 
 pub returns-in-Some : goal.returns-in-Some
