@@ -54,22 +54,10 @@ impl Shift {
         ensures { result ≡ line_after self n }
     {
         match self.change {
-            Change::Insert => {
-                if n < self.line || n == u64::MAX {
-                    Some(n)
-                } else {
-                    Some(n + 1)
-                }
-            }
-            Change::Delete => {
-                if n == self.line {
-                    None
-                } else if n < self.line {
-                    Some(n)
-                } else {
-                    Some(n - 1)
-                }
-            }
+            Change::Delete if n == self.line => None,
+            _ if n < self.line => Some(n),
+            Change::Insert => Some(n.saturating_add(1)),
+            Change::Delete => Some(n - 1),
         }
     }
 
@@ -78,10 +66,8 @@ impl Shift {
         requires { n < u64.MAX }
         ensures { result ≡ line_from None self.change self.line Some n }
     {
-        if n < self.line {
-            return Some(n);
-        }
         match self.change {
+            _ if n < self.line => Some(n),
             Change::Insert if n == self.line => None,
             Change::Insert => Some(n - 1),
             Change::Delete => Some(n + 1),
@@ -96,21 +82,24 @@ impl Shift {
         let p = self.line;
         match self.change {
             Change::Insert => {
-                let start = if first < p || first == u64::MAX {
+                let start = if first < p {
                     first
                 } else {
-                    first + 1
+                    first.saturating_add(1)
                 };
-                let grows = first < p && p - first < count && count < u64::MAX;
+                let grows = first < p && p - first < count;
+                let lines = if grows {
+                    count.saturating_add(1)
+                } else {
+                    count
+                };
                 Some(Span {
                     first: start,
-                    count: if grows { count + 1 } else { count },
+                    count: lines,
                 })
             }
+            Change::Delete if first == p && count == 1 => None,
             Change::Delete => {
-                if first == p && count == 1 {
-                    return None;
-                }
                 let shrinks = first <= p && p - first < count;
                 Some(Span {
                     first: if p < first { first - 1 } else { first },
