@@ -19,7 +19,10 @@ fn shift_grid(cells: &mut [u64], reshape: Reshape)
     ensures { cells.new ≡ cells_after reshape.shift reshape.size cells.old }
 {
     shift_entries::<CELL_LEN>(cells, reshape);
-    shift_cells(cells, reshape.entries_after(), reshape.shift);
+    shift_cells(
+        &mut cells[..CELL_LEN * reshape.entries_after()],
+        reshape.shift,
+    );
 }
 
 // The sheet of this size in a memory that has room for it afterwards. A sheet that was not refused is not refused afterwards.
