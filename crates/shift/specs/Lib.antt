@@ -6,4 +6,3 @@ pub mod Memory
 pub mod Values
 pub mod Laws
 pub mod Stair
-pub mod Along

@@ -1,8 +1,10 @@
 // What has rows and columns, as a cell, a range or a size has: of each a part along either axis.
-ghost use Rattle.std.specs.Prelude.{◌≡◌};
+ghost use Rattle.std.specs.Prelude.{◌≡◌, refl};
+ghost use Rattle.formula.specs.Tokens.{the_ref, the_range};
 ghost use Rattle.shift.specs.declared.shift.Axis.{Axis};
+ghost use Rattle.shift.specs.declared.shift.Axis.TheVariants.{Row, Column};
+ghost use Rattle.shift.specs.Shifts.{by_axis};
 ghost use Rattle.shift.specs.Laws.{crossing, span_of};
-ghost use Rattle.shift.specs.Along.{ref_along, size_along, ref_with, range_with, size_with, ref_taken, ref_kept, ref_beside, range_taken, range_kept, range_beside, size_taken, size_kept, size_beside};
 
 use crate::shift::{Axis, Span};
 use formula::{CellRef, Range};
@@ -33,15 +35,15 @@ pub(crate) trait Along: Copy {
 impl Along for CellRef {
     type Part = u64;
 
-    ghost part = { ref_along };
+    ghost part = { λ a x. by_axis a x.row x.col };
 
-    ghost put = { ref_with };
+    ghost put = { λ a x p. the_ref (by_axis a p x.row) (by_axis a x.col p) };
 
-    ghost taken = { ref_taken };
+    ghost taken = { elim [ Row ↦ λ x p. refl | Column ↦ λ x p. refl ] };
 
-    ghost kept = { ref_kept };
+    ghost kept = { elim [ Row ↦ λ x. refl | Column ↦ λ x. refl ] };
 
-    ghost beside = { ref_beside };
+    ghost beside = { elim [ Row ↦ λ x p. refl | Column ↦ λ x p. refl ] };
 
     fn along(self, axis: Axis) -> u64 {
         axis.pick(self.row, self.col)
@@ -60,13 +62,13 @@ impl Along for Range {
 
     ghost part = { span_of };
 
-    ghost put = { range_with };
+    ghost put = { λ a x p. the_range (by_axis a p.first x.row) (by_axis a p.count x.rows) (by_axis a x.col p.first) (by_axis a x.cols p.count) };
 
-    ghost taken = { range_taken };
+    ghost taken = { elim [ Row ↦ λ x p. refl | Column ↦ λ x p. refl ] };
 
-    ghost kept = { range_kept };
+    ghost kept = { elim [ Row ↦ λ x. refl | Column ↦ λ x. refl ] };
 
-    ghost beside = { range_beside };
+    ghost beside = { elim [ Row ↦ λ x p. refl | Column ↦ λ x p. refl ] };
 
     fn along(self, axis: Axis) -> Span {
         Span {
@@ -94,15 +96,15 @@ impl Along for Range {
 impl Along for Size {
     type Part = u64;
 
-    ghost part = { size_along };
+    ghost part = { λ a x. by_axis a x.rows x.cols };
 
-    ghost put = { size_with };
+    ghost put = { λ a x p. record { rows = by_axis a p x.rows; cols = by_axis a x.cols p } };
 
-    ghost taken = { size_taken };
+    ghost taken = { elim [ Row ↦ λ x p. refl | Column ↦ λ x p. refl ] };
 
-    ghost kept = { size_kept };
+    ghost kept = { elim [ Row ↦ λ x. refl | Column ↦ λ x. refl ] };
 
-    ghost beside = { size_beside };
+    ghost beside = { elim [ Row ↦ λ x p. refl | Column ↦ λ x p. refl ] };
 
     fn along(self, axis: Axis) -> u64 {
         axis.pick(self.rows, self.cols)

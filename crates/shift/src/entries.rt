@@ -46,7 +46,8 @@ fn spread<const LEN: usize>(part: &mut [u64], reshape: Reshape)
     }
 }
 
-// Moves the entries behind a deleted line, the first one first. A loop of its own: in what order no entry is lost is what differs from `spread`, and of an order that is passed the caller would have to prove it.
+// Moves the entries behind a deleted line, the first one first.
+// A second loop, and not one over an order that is passed: of that order it would be asked that no entry is overwritten before it is moved.
 fn gather<const LEN: usize>(part: &mut [u64], reshape: Reshape)
     requires change { reshape.shift.change ≡ Delete }
     requires room { LEN * most_behind reshape.shift reshape.size ≤ length part.old }
