@@ -288,16 +288,6 @@ first_left d size s = go d.axis d.change d.line s
         let m = mul-le 1 (count_to h size.cols) size.rows (count_to h size.cols) s.some_rows (omega arith) in
         omega arith
 
--- where there are fewer cells than before, or no more
-pub cells_toward : (d : Shift) (size : Size) → Shiftable d size → Toward d.change (cells_of size) (cells_of (size_after d size))
-cells_toward d size s = go d.axis d.change
-  where
-    go : (a : Axis) (h : Change) → Toward h (cells_of size) (cells_of (size_after (the_shift a h d.line) size))
-    go Row Insert = mul-le size.rows size.cols (size.rows + 1) size.cols (omega arith) (omega arith)
-    go Row Delete = mul-le (size.rows - 1) size.cols size.rows size.cols (omega arith) (omega arith)
-    go Column Insert = mul-le size.rows size.cols size.rows (size.cols + 1) (omega arith) (omega arith)
-    go Column Delete = mul-le size.rows (size.cols - 1) size.rows size.cols (omega arith) (omega arith)
-
 pub few_cells : (d : Shift) (size : Size) → Shiftable d size → (cells_of size ≤ max_cells) × (cells_of (size_after d size) ≤ max_cells)
 few_cells d size s =
     (mul-le size.rows size.cols max_rows max_columns s.few_rows s.few_cols, mul-le (rows_after d size.rows) (cols_after d size.cols) max_rows max_columns s.rows_left s.cols_left)

@@ -1,12 +1,12 @@
 -- Entries put to their places one by one. Assumes nothing.
-use Rattle.std.proofs.Common.{◌≡◌, ℕ, suc, ◌+◌, ◌-◌, ◌*◌, ◌<◌, ◌≤◌, List, ◌++◌, length, take, drop, Some, None, Option, sym, refl, ap, ◌∙◌, subst, mul-le-mul_left, mul-zero, mul-suc, arith, length-drop, length-take}
+use Rattle.std.proofs.Common.{◌≡◌, ℕ, suc, ◌+◌, ◌-◌, ◌*◌, ◌<◌, ◌≤◌, List, ◌++◌, length, take, drop, Some, None, Option, sym, refl, ap, ◌∙◌, subst, mul-le-mul_left, mul-suc, arith, length-drop, length-take}
 use lib.ListN.{length-replicate}
 use Rattle.std.proofs.lemmas.List.{append_assoc, drop_at, take-take, take-append-le, take-append-drop, length-take-le}
 use Rattle.recalc.specs.Entries.{entry, entries_from}
 use Rattle.recalc.proofs.Entries.{part_front, entry_behind, entries_length, FilledTo, filled_more}
 use Rattle.shift.specs.declared.shift.Change.TheVariants.{Insert, Delete}
 use Rattle.shift.specs.declared.reshape.Reshape.{Reshape}
-use Rattle.shift.specs.Entries.{Within, left_behind, most_behind, origin_behind, entry_or_zeros, placed}
+use Rattle.shift.specs.Entries.{Within, left_behind, most_behind, origin_behind, entry_or_zeros}
 use Rattle.shift.proofs.Behind.{Comes, behinds}
 
 -- an entry of a row that begins as another does
@@ -41,17 +41,6 @@ module _ (len : ℕ) (r : Reshape) (xs : List ℕ) where
   pub spread_none : (i : ℕ) → i ≡ m → SpreadTo i xs
   unfolding entries_from
   spread_none i e = let z : m - m ≡ 0 = omega arith in rw (e, z) (sym (take-append-drop (len * m) xs))
-
-  pub spread_all : (i : ℕ) (now : List ℕ) → i ≡ 0 → SpreadTo i now → now ≡ placed len from m xs
-  spread_all i now z e =
-      let all : m - 0 ≡ m = omega arith in
-      e
-      ∙ ap (λ i. take (len * i) xs ++ (entries_from put i (m - i) ++ drop (len * m) xs)) z
-      ∙ ap (λ i. take i xs ++ (entries_from put 0 (m - 0) ++ drop (len * m) xs)) (mul-zero len)
-      ∙ ap (λ i. entries_from put 0 i ++ drop (len * m) xs) all
-
-  pub gathered_all : (i : ℕ) (now : List ℕ) → i ≡ m → GatheredTo i now → now ≡ placed len from m xs
-  gathered_all i now e g = g ∙ ap (λ i. entries_from put 0 i ++ drop (len * i) xs) e
 
   -- one entry more, from one that is not yet overwritten
   abbrev Put : ℕ → List ℕ → List ℕ → Type 0
