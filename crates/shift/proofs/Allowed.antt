@@ -6,7 +6,6 @@ use Rattle.formula.specs.Layout.{cell_len}
 use Rattle.recalc.specs.declared.size.Size.{Size}
 use Rattle.recalc.specs.declared.refusal.Refusal.{Refusal}
 use Rattle.recalc.specs.Layout.{sheet_len, size_in, checked, fitting}
-use Rattle.recalc.specs.Showing.{unless_refused}
 use Rattle.recalc.proofs.Fitting.{Fits, fits, is_fitting}
 use Rattle.recalc.proofs.Numbered.{checked_size}
 use Rattle.shift.specs.declared.shift.Axis.{Axis}
@@ -18,7 +17,7 @@ use Rattle.shift.specs.Lines.{count_to}
 use Rattle.shift.specs.Shifts.{the_shift, rows_after, cols_after}
 use Rattle.shift.specs.Sheets.{line_allowed, shift_allowed}
 use Rattle.shift.specs.Entries.{size_after, cells_of, LineThere, Shiftable}
-use Rattle.shift.specs.Memory.{shifted_memory, if_allowed, if_fitting, shift_checked, shifted_in}
+use Rattle.shift.specs.Memory.{shifted_memory, and_then, shift_checked, shifted_in}
 use Rattle.shift.proofs.Memories.{some_left, memory_length}
 
 -- the line is there, and there are no more than may be
@@ -86,26 +85,33 @@ pub record Ready (d : Shift) (most size : Size) (xs : List ℕ) : Type 0 where
   pub ok : is_ok (checked xs) ≡ true
   pub answer : shifted_in d most xs ≡ Ok (shifted_memory d xs)
 
-pub ready : (d : Shift) (most size : Size) (xs : List ℕ) → shift_checked d most xs ≡ Ok size → Ready d most size xs
-ready d most size xs e = go (fitting most xs) refl e
+-- a sheet that fits, and a shift of it that is not refused
+fitted : (d : Shift) (most size : Size) (xs : List ℕ) → fitting most xs ≡ Ok size → shift_allowed d size most ≡ Ok tt → (size ≡ size_in xs) × Fits most xs × (checked xs ≡ Ok size) × Leaves d most xs
+fitted d most size xs h e =
+    let f = fits most size xs h in
+    let is = checked_size xs size f.1 in
+    (is, f.0, f.1, leaves d most xs f.0 (subst (λ z. shift_allowed d z most ≡ Ok tt) is e))
+
+pub shiftable : (d : Shift) (most size : Size) (xs : List ℕ) → fitting most xs ≡ Ok size → shift_allowed d size most ≡ Ok tt → Shiftable d size
+shiftable d most size xs h e = let t = fitted d most size xs h e in subst (Shiftable d) (sym t.0) t.3.shiftable
+
+-- so it is for the shift that was checked
+pub ready : (d e : Shift) (most size : Size) (xs : List ℕ) → d ≡ e → shift_checked e most xs ≡ Ok size → Ready d most size xs
+ready d e most size xs same is = go (fitting most xs) refl checked_so
   where
-    allowed : (z : Size) (r : Result (Unit {0}) Refusal) → if_allowed r z ≡ Ok size → (z ≡ size) × (r ≡ Ok tt)
+    checked_so : shift_checked d most xs ≡ Ok size
+    checked_so = subst (λ f. shift_checked f most xs ≡ Ok size) (sym same) is
+
+    allowed : (z : Size) (r : Result (Unit {0}) Refusal) → and_then r (λ u. Ok z) ≡ Ok size → (z ≡ size) × (r ≡ Ok tt)
     allowed z (Ok x) e = (cc, refl)
     allowed z (Err r) e = absurd (let y : ◌≡◌ {A = ℕ} 0 1 = cc in omega arith)
 
-    go : (f : Result Size Refusal) → fitting most xs ≡ f → if_fitting f (λ z. if_allowed (shift_allowed d z most) z) ≡ Ok size → Ready d most size xs
+    go : (f : Result Size Refusal) → fitting most xs ≡ f → and_then f (λ z. and_then (shift_allowed d z most) (λ u. Ok z)) ≡ Ok size → Ready d most size xs
     go (Err r) h a = absurd (let y : ◌≡◌ {A = ℕ} 0 1 = cc in omega arith)
     go (Ok z) h a =
-        let f = fits most z xs h in
-        let t = allowed z (shift_allowed d z most) a in
-        let is = checked_size xs z f.1 in
-        record {
-          is = sym t.0 ∙ is;
-          fits = f.0;
-          leaves = leaves d most xs f.0 (subst (λ y. shift_allowed d y most ≡ Ok tt) is t.1);
-          ok = ap is_ok f.1;
-          answer = ap (λ r. unless_refused r (λ y. Ok (shifted_memory d xs))) e;
-        }
+        let a = allowed z (shift_allowed d z most) a in
+        let t = fitted d most z xs h a.1 in
+        record { is = sym a.0 ∙ t.0; fits = t.1; leaves = t.3; ok = ap is_ok t.2; answer = ap (λ r. and_then r (λ y. Ok (shifted_memory d xs))) checked_so }
 
 -- it fits afterwards as it did before
 pub fits_after : (d : Shift) (most size : Size) (xs : List ℕ) → Ready d most size xs → checked (shifted_memory d xs) ≡ Ok (size_after d (size_in xs))

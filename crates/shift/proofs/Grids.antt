@@ -1,8 +1,8 @@
 -- A whole grid of entries after a shift, from what its parts became. Assumes nothing.
-use Rattle.std.proofs.Common.{◌≡◌, ℕ, zero, suc, ◌+◌, ◌-◌, ◌*◌, ◌<◌, ◌≤◌, max, ◌⊎◌, List, [], ◌∷◌, ◌++◌, length, take, drop, replicate, None, sym, refl, ap, ◌∙◌, inl, inr, mul-le-mul_left, mul-zero, mul-suc, mul-add, arith, length-drop}
+use Rattle.std.proofs.Common.{◌≡◌, ℕ, zero, suc, ◌+◌, ◌-◌, ◌*◌, ◌<◌, ◌≤◌, max, ◌⊎◌, List, ◌++◌, length, take, drop, replicate, None, sym, ap, ◌∙◌, inl, inr, mul-le-mul_left, mul-zero, mul-suc, mul-add, arith, length-drop}
 use borrow.Rule.Slice.PartMut.{put_mid}
 use Rattle.std.specs.Option.{option_map}
-use Rattle.std.proofs.lemmas.List.{append_assoc, append-nil, take_at, drop-drop, drop_all}
+use Rattle.std.proofs.lemmas.List.{append_assoc, append-nil, take_at, drop-drop, drop_all, drop-take, take-append-drop, take-take}
 use Rattle.std.proofs.lemmas.Slice.{drop-append-drop}
 use Rattle.recalc.specs.declared.size.Size.{Size}
 use Rattle.recalc.specs.Entries.{entry, entries_from}
@@ -14,13 +14,7 @@ use Rattle.shift.proofs.Origins.{Origin, origins, kept_before, coming_is, first_
 use Rattle.shift.proofs.Placed.{entry_long}
 
 take_sum : (a b : ℕ) (xs : List ℕ) → take (a + b) xs ≡ take a xs ++ take b (drop a xs)
-take_sum zero b xs = let e : 0 + b ≡ b = omega arith in rw e
-take_sum (suc a) b [] = let e : suc a + b ≡ suc (a + b) = omega arith in rw e (none b)
-  where
-    none : (n : ℕ) → [] ≡ take {A = ℕ} n []
-    none zero = refl
-    none (suc n) = refl
-take_sum (suc a) b (x ∷ xs) = let e : suc a + b ≡ suc (a + b) = omega arith in rw e (ap (λ ys. x ∷ ys) (take_sum a b xs))
+take_sum a b xs = sym (take-append-drop a (take (a + b) xs)) ∙ ap (λ ys. ys ++ drop a (take (a + b) xs)) (take-take a (a + b) xs (omega arith)) ∙ ap (λ ys. take a xs ++ ys) (drop-take a b xs)
 
 -- the entries of a row are what it begins with
 front_entries : (len n : ℕ) (xs : List ℕ) → entries_from (λ k. entry len k xs) 0 n ≡ take (len * n) xs
@@ -106,25 +100,3 @@ module _ (len : ℕ) (d : Shift) (size : Size) (xs : List ℕ) (s : Shiftable d 
 -- a part from number f on, written back
 pub put_behind : (f : ℕ) (xs part : List ℕ) → f ≤ length xs → put_mid f (length xs - f) xs part ≡ take f xs ++ part
 put_behind f xs part l = ap (λ ys. take f xs ++ (part ++ ys)) (drop_all (length xs - f) (drop f xs) (simp length-drop (omega arith))) ∙ ap (λ ys. take f xs ++ ys) (append-nil part)
-
--- where the parts of a grid begin and end in a row of n numbers
-part_room : (len f k m n : ℕ) → f ≤ m → k ≤ m → len * m ≤ n → (len * f ≤ n) × (len * (k - f) ≤ n - len * f)
-part_room len f k m n a b h =
-    let sum : f + (m - f) ≡ m = omega arith in
-    let whole : len * f + len * (m - f) ≡ len * m = sym (mul-add len f (m - f)) ∙ ap (λ i. len * i) sum in
-    let less : len * (k - f) ≤ len * (m - f) = mul-le-mul_left len (omega arith) in
-    (omega arith, omega arith)
-
--- the parts that a shift of a grid writes to
-pub record Cuts (len : ℕ) (d : Shift) (size : Size) (n f : ℕ) : Type 0 where
-  pub first : len * f ≤ n
-  pub before : len * (cells_of size - first_entry d size) ≤ n - len * f
-  pub after : len * (cells_of (size_after d size) - first_entry d size) ≤ n - len * f
-
-pub cuts : (len : ℕ) (d : Shift) (size : Size) (n f : ℕ) → Shiftable d size → len * max (cells_of size) (cells_of (size_after d size)) ≤ n → f ≡ first_entry d size → Cuts len d size n f
-cuts len d size n f s room e =
-    let left = first_left d size s in
-    let m = max (cells_of size) (cells_of (size_after d size)) in
-    let a = part_room len (first_entry d size) (cells_of size) m n (omega arith) (omega arith) room in
-    let b = part_room len (first_entry d size) (cells_of (size_after d size)) m n (omega arith) (omega arith) room in
-    rw e (record { first = a.0; before = a.1; after = b.1 })

@@ -1,4 +1,5 @@
 pub mod Origins
+pub mod Behind
 pub mod Placed
 pub mod Grids
 pub mod OneCell

@@ -3,7 +3,7 @@ use Rattle.std.proofs.Common.{◌≡◌, ℕ, ◌+◌, ◌-◌, ◌*◌, ◌/◌
 use mathlib.Core.Path.{fun_ext}
 use borrow.Rule.Slice.PartMut.{put_mid}
 use lib.ListN.{length-replicate}
-use Rattle.std.proofs.lemmas.List.{drop_at, drop-drop}
+use Rattle.std.proofs.lemmas.List.{append-nil, drop_all, drop_at, drop-drop, length-take-le}
 use Rattle.std.proofs.lemmas.Nat.{mul-add-lt, div-mul-add, mod-mul-add}
 use Rattle.formula.specs.Layout.{cell_len}
 use Rattle.formula.specs.Formula.{Formula}
@@ -12,7 +12,7 @@ use Rattle.recalc.specs.declared.size.Size.{Size}
 use Rattle.recalc.specs.Layout.{header_len, sheet_len, cell_numbers, cols_in, size_in, is_malformed, checked}
 use Rattle.recalc.specs.Sheets.{inside, formula_in, sheet_in, Same}
 use Rattle.recalc.specs.Entries.{entry, entries_from}
-use Rattle.recalc.proofs.Entries.{same_entries, entries_length, entry_at}
+use Rattle.recalc.proofs.Entries.{part_front, same_entries, entries_length, entry_at}
 use Rattle.recalc.proofs.Malformed.{none_malformed, each_formed}
 use Rattle.recalc.specs.SheetLaws.{inside_is}
 use Rattle.recalc.proofs.Numbered.{checked_formed, is_checked}
@@ -28,6 +28,24 @@ use Rattle.shift.specs.Memory.{shifted_cell, shifted_cells, cells_after, shifted
 use Rattle.shift.proofs.Origins.{Origin, origins, place_each, coming_is}
 use Rattle.shift.proofs.OneCell.{cell_length, shifted_content, content_shifted, formula_of, malformed_of}
 use Rattle.shift.proofs.Grids.{coming_long, put_behind}
+
+-- the cells at the front of a row, shifted as a row of their own
+pub front_shifted : (d : Shift) (n : ℕ) (xs : List ℕ) → cell_len * n ≤ length xs
+    → let front = take (cell_len * n) xs in
+    let m = length front / cell_len in
+    shifted_cells d (λ k. entry cell_len k front) m (drop (cell_len * m) front) ++ drop (cell_len * n) xs ≡ shifted_cells d (λ k. entry cell_len k xs) n (drop (cell_len * n) xs)
+front_shifted d n xs l =
+    let front = take (cell_len * n) xs in
+    let long : length front ≡ cell_len * n = length-take-le (cell_len * n) xs l in
+    let all : length front / cell_len ≡ n = omega (arith, long) in
+    let none : drop (cell_len * n) front ≡ [] = drop_all (cell_len * n) front (omega (arith, long)) in
+    let cells : List ℕ = entries_from (λ k. shifted_cell d (entry cell_len k front)) 0 n in
+    ap (λ m. shifted_cells d (λ k. entry cell_len k front) m (drop (cell_len * m) front) ++ drop (cell_len * n) xs) all
+    ∙ ap (λ ys. (cells ++ ys) ++ drop (cell_len * n) xs) none
+    ∙ ap (λ ys. ys ++ drop (cell_len * n) xs) (append-nil cells)
+    ∙ ap (λ ys. ys ++ drop (cell_len * n) xs)
+    (same_entries (λ k. shifted_cell d (entry cell_len k front)) (λ k. shifted_cell d (entry cell_len k xs)) 0 n
+    (λ k a b. ap (λ ys. shifted_cell d (entry cell_len k ys)) (sym (append-nil front)) ∙ ap (shifted_cell d) (part_front (cell_len * k) cell_len (cell_len * n) xs [] (omega arith) l)))
 
 module _ (d : Shift) (size : Size) (xs : List ℕ) (s : Shiftable d size) (room : cell_len * cells_of size ≤ length xs) where
   abbrev left : ℕ

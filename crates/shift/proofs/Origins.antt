@@ -1,6 +1,5 @@
 -- Where an entry of a shifted grid came from. Assumes nothing.
-use Rattle.std.proofs.Common.{◌≡◌, ℕ, zero, suc, ◌+◌, ◌-◌, ◌*◌, ◌/◌, ◌%◌, ◌<◌, ◌≤◌, Bool, true, false, cond, eqb, ltb, ◌⊎◌, List, Some, None, Option, sym, refl, ap, ◌∙◌, subst, inl, inr, mul-le-mul_left, mul-suc, arith}
-use Rattle.std.specs.Option.{option_map}
+use Rattle.std.proofs.Common.{◌≡◌, ℕ, zero, suc, ◌+◌, ◌-◌, ◌*◌, ◌/◌, ◌%◌, ◌<◌, ◌≤◌, Bool, true, false, cond, eqb, ltb, ◌⊎◌, List, Some, None, sym, refl, ap, ◌∙◌, inl, inr, arith}
 use Rattle.std.proofs.lemmas.Bool.Decides.{nat_tests}
 use Rattle.std.proofs.lemmas.Bool.{cases_lt, cases_order}
 use Rattle.std.proofs.lemmas.Nat.{mul-le, mul-add-lt, div-add-mod', div_below, mod_below}
@@ -15,7 +14,7 @@ use Rattle.shift.specs.declared.shift.Change.TheVariants.{Insert, Delete}
 use Rattle.shift.specs.declared.shift.Shift.{Shift}
 use Rattle.shift.specs.Lines.{count_to, line_from}
 use Rattle.shift.specs.Shifts.{the_shift, by_axis, place_from, rows_after, cols_after}
-use Rattle.shift.specs.Entries.{size_after, cells_of, coming, LineThere, Shiftable, origin, first_entry, origin_behind, entry_or_zeros, Within}
+use Rattle.shift.specs.Entries.{size_after, cells_of, coming, LineThere, Shiftable, origin, first_entry, entry_or_zeros}
 
 -- line n came to be line i
 abbrev pub Came : Change → ℕ → ℕ → ℕ → Type 0
@@ -289,66 +288,6 @@ first_left d size s = go d.axis d.change d.line s
         let m = mul-le 1 (count_to h size.cols) size.rows (count_to h size.cols) s.some_rows (omega arith) in
         omega arith
 
--- where there are fewer cells than before, or no more
-pub cells_toward : (d : Shift) (size : Size) → Shiftable d size → Toward d.change (cells_of size) (cells_of (size_after d size))
-cells_toward d size s = go d.axis d.change
-  where
-    go : (a : Axis) (h : Change) → Toward h (cells_of size) (cells_of (size_after (the_shift a h d.line) size))
-    go Row Insert = mul-le size.rows size.cols (size.rows + 1) size.cols (omega arith) (omega arith)
-    go Row Delete = mul-le (size.rows - 1) size.cols size.rows size.cols (omega arith) (omega arith)
-    go Column Insert = mul-le size.rows size.cols size.rows (size.cols + 1) (omega arith) (omega arith)
-    go Column Delete = mul-le size.rows (size.cols - 1) size.rows size.cols (omega arith) (omega arith)
-
--- an entry that comes to stand at number i, if any, comes from there or from where the change pushes entries away from
-abbrev pub Comes : Change → Option ℕ → ℕ → Type 0
-Comes h None i = Unit {0}
-Comes h (Some j) i = Toward h j i
-
 pub few_cells : (d : Shift) (size : Size) → Shiftable d size → (cells_of size ≤ max_cells) × (cells_of (size_after d size) ≤ max_cells)
 few_cells d size s =
     (mul-le size.rows size.cols max_rows max_columns s.few_rows s.few_cols, mul-le (rows_after d size.rows) (cols_after d size.cols) max_rows max_columns s.rows_left s.cols_left)
-
-toward_behind : (h : Change) (j k f i : ℕ) → Toward h j k → k ≡ f + i → f ≤ j → Toward h (j - f) i
-toward_behind Insert j k f i t e l = omega arith
-toward_behind Delete j k f i t e l = omega arith
-
--- what is needed to put entry i of those from the line on
-pub record Behind (d : Shift) (size : Size) (len n i : ℕ) : Type 0 where
-  pub within : Within len (origin_behind d size i) n
-  pub comes : Comes d.change (origin_behind d size i) i
-  pub small : i < max_cells
-
-pub behinds : (d : Shift) (size : Size) (len n i : ℕ) → Shiftable d size → i < cells_of (size_after d size) - first_entry d size → len * (cells_of size - first_entry d size) ≤ n
-    → Behind d size len n i
-behinds d size len n i s l room = go (origins d size (first + i) s (omega arith))
-  where
-    first : ℕ
-    first = first_entry d size
-
-    few : (cells_of size ≤ max_cells) × (cells_of (size_after d size) ≤ max_cells)
-    few = few_cells d size s
-
-    go : ((j : ℕ) × Origin d size (first + i) j) ⊎ ((origin d size (first + i) ≡ None) × (d.change ≡ Insert)) → Behind d size len n i
-    go (inl (j, o)) =
-        let b : first ≤ j = o.behind (omega arith) in
-        let is : origin_behind d size i ≡ Some (j - first) = ap (option_map (λ k. k - first)) o.is in
-        let most : suc (j - first) ≤ cells_of size - first = let q = o.inside in omega arith in
-        let fits : len * (j - first) + len ≤ n = omega (arith, mul-suc len (j - first), mul-le-mul_left len most) in
-        record {
-          within = rw is (let q = o.inside in let r = few.0 in omega arith, fits);
-          comes = rw is (toward_behind d.change j (first + i) first i o.toward refl b);
-          small = let r = few.1 in omega arith;
-        }
-    go (inr (e, h)) = let is : origin_behind d size i ≡ None = ap (option_map (λ k. k - first)) e in record { within = rw is tt; comes = rw is tt; small = let r = few.1 in omega arith }
-
--- where a line was inserted there is room for all that was there
-pub room_inserted : (d : Shift) (size : Size) (len n : ℕ) → Shiftable d size → d.change ≡ Insert → len * (cells_of (size_after d size) - first_entry d size) ≤ n
-    → len * (cells_of size - first_entry d size) ≤ n
-room_inserted d size len n s e room =
-    let t : cells_of size ≤ cells_of (size_after d size) = subst (λ h. Toward h (cells_of size) (cells_of (size_after d size))) e (cells_toward d size s) in
-    let l : cells_of size - first_entry d size ≤ cells_of (size_after d size) - first_entry d size = omega arith in
-    omega (arith, mul-le-mul_left len l)
-
--- where a line was deleted there is no more left than was there
-pub left_deleted : (d : Shift) (size : Size) → Shiftable d size → d.change ≡ Delete → cells_of (size_after d size) ≤ cells_of size
-left_deleted d size s e = subst (λ h. Toward h (cells_of size) (cells_of (size_after d size))) e (cells_toward d size s)

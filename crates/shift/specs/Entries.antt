@@ -1,6 +1,7 @@
 -- The entries of a grid, in reading order, after a shift: one definition for the cells of a sheet and for what they show. Assumes nothing: these are definitions.
 use Rattle.std.specs.Prelude.{ℕ, ◌+◌, ◌-◌, ◌*◌, ◌<◌, ◌≤◌, max, List, ◌++◌, drop, replicate, Some, None, Option}
 use Rattle.std.specs.Option.{option_map}
+use Rattle.std.specs.Coded.{×_prop, le_prop}
 use Rattle.evaluate.specs.Limits.{max_rows, max_columns, max_cells}
 use Rattle.recalc.specs.declared.size.Size.{Size}
 use Rattle.recalc.specs.Entries.{entry, entries_from, by_number}
@@ -40,6 +41,22 @@ pub record Shiftable (d : Shift) (size : Size) : Type 0 where
   pub rows_left : rows_after d size.rows ≤ max_rows
   pub cols_left : cols_after d size.cols ≤ max_columns
 
+-- a fact of a grid and of a shift: no two proofs of it differ
+LineThere-prop : (h : Change) (p n : ℕ) → IsProp (LineThere h p n)
+LineThere-prop Insert p n = le_prop
+LineThere-prop Delete p n = ×_prop le_prop le_prop
+
+pub Shiftable-prop : (d : Shift) (size : Size) → IsProp (Shiftable d size)
+Shiftable-prop d size x y = λ i. record {
+  some_rows = le_prop x.some_rows y.some_rows i;
+  few_rows = le_prop x.few_rows y.few_rows i;
+  some_cols = le_prop x.some_cols y.some_cols i;
+  few_cols = le_prop x.few_cols y.few_cols i;
+  there = LineThere-prop d.change d.line (by_axis d.axis size.rows size.cols) x.there y.there i;
+  rows_left = le_prop x.rows_left y.rows_left i;
+  cols_left = le_prop x.cols_left y.cols_left i;
+}
+
 -- the number that an entry had which comes to stand at number k
 abbrev pub origin : Shift → Size → ℕ → Option ℕ
 origin d size k = by_number (cols_after d size.cols) (place_from None d (λ r c. Some (r * size.cols + c))) k
@@ -48,7 +65,14 @@ origin d size k = by_number (cols_after d size.cols) (place_from None d (λ r c.
 abbrev pub first_entry : Shift → Size → ℕ
 first_entry d size = by_axis d.axis (d.line * size.cols) d.line
 
--- the same, counted from that entry on
+-- how many entries there are from that one on, afterwards, and before or afterwards, whichever is more
+abbrev pub left_behind : Shift → Size → ℕ
+left_behind d size = cells_of (size_after d size) - first_entry d size
+
+abbrev pub most_behind : Shift → Size → ℕ
+most_behind d size = max (cells_of size - first_entry d size) (left_behind d size)
+
+-- the number that an entry had, both counted from that one on
 abbrev pub origin_behind : Shift → Size → ℕ → Option ℕ
 origin_behind d size i = option_map (λ j. j - first_entry d size) (origin d size (first_entry d size + i))
 

@@ -7,7 +7,7 @@ use Rattle.recalc.specs.declared.refusal.Refusal.{Refusal}
 use Rattle.recalc.specs.Layout.{header_len, size_in, fitting}
 use Rattle.recalc.specs.Entries.{entries_from}
 use Rattle.recalc.specs.Sheets.{sheet_in, Same}
-use Rattle.recalc.specs.Showing.{unless_refused, answered, kept}
+use Rattle.recalc.specs.Showing.{answered, kept}
 use Rattle.shift.specs.declared.shift.Shift.{Shift}
 use Rattle.shift.specs.Shifts.{ref_after, range_after}
 use Rattle.shift.specs.Entries.{size_after, cells_of, coming}
@@ -35,21 +35,18 @@ cells_after d size cells =
 abbrev pub shifted_memory : Shift → List ℕ → List ℕ
 shifted_memory d xs = (size_after d (size_in xs)).rows ∷ (size_after d (size_in xs)).cols ∷ cells_after d (size_in xs) (drop header_len xs)
 
-abbrev pub if_allowed : Result (Unit {0}) Refusal → Size → Result Size Refusal
-if_allowed (Ok x) size = Ok size
-if_allowed (Err r) size = Err r
-
-abbrev pub if_fitting : Result Size Refusal → (Size → Result Size Refusal) → Result Size Refusal
-if_fitting (Ok size) go = go size
-if_fitting (Err r) go = Err r
+-- a step that is taken unless an earlier one is refused
+abbrev pub and_then : {A B : Type 0} → Result A Refusal → (A → Result B Refusal) → Result B Refusal
+and_then (Ok x) go = go x
+and_then (Err r) go = Err r
 
 -- the size of a sheet that can be shifted, or the first refusal that applies, where there may be as many rows and columns as `most` says
 abbrev pub shift_checked : Shift → Size → List ℕ → Result Size Refusal
-shift_checked d most xs = if_fitting (fitting most xs) (λ size. if_allowed (shift_allowed d size most) size)
+shift_checked d most xs = and_then (fitting most xs) (λ size. and_then (shift_allowed d size most) (λ u. Ok size))
 
 -- the memory after a shift, or the refusal
 abbrev pub shifted_in : Shift → Size → List ℕ → Result (List ℕ) Refusal
-shifted_in d most xs = unless_refused (shift_checked d most xs) (λ size. Ok (shifted_memory d xs))
+shifted_in d most xs = and_then (shift_checked d most xs) (λ size. Ok (shifted_memory d xs))
 
 -- what `shift_sheet` promises of its answer and of the memory afterwards
 pub record Shifts (d : Shift) (most : Size) (xs : List ℕ) (r : Result (Unit {0}) Refusal) (ys : List ℕ) : Type 0 where

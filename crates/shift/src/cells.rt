@@ -1,7 +1,6 @@
 // The formulas of a sheet's cells, shifted where they stand.
-ghost use Rattle.std.specs.Prelude.{◌≡◌, ◌*◌, ◌≤◌, length, drop};
+ghost use Rattle.std.specs.Prelude.{◌≡◌, ◌*◌, ◌/◌, length, drop};
 ghost use Rattle.formula.specs.Layout.{cell_len};
-ghost use Rattle.evaluate.specs.Limits.{max_cells};
 ghost use Rattle.recalc.specs.Entries.{entry};
 ghost use Rattle.shift.specs.Memory.{shifted_cell, shifted_cells};
 
@@ -16,12 +15,12 @@ fn shift_cell(cell: &mut [u64], shift: Shift)
     rewrite(&mut cell[1..1 + TOKEN_LEN * count], &shift);
 }
 
-// So many cells, one after the other; what lies behind them stays as it was.
-pub fn shift_cells(cells: &mut [u64], count: usize, shift: Shift)
-    requires { (count ≤ max_cells) × (cell_len * count ≤ length cells.old) }
-    ensures { cells.new ≡ shifted_cells shift (λ k. entry cell_len k cells.old) count (drop (cell_len * count) cells.old) }
+// Each cell of a row of cells.
+pub(crate) fn shift_cells(cells: &mut [u64], shift: Shift)
+    ensures { cells.new ≡ shifted_cells shift (λ k. entry cell_len k cells.old) (length cells.old / cell_len) (drop (cell_len * (length cells.old / cell_len)) cells.old) }
 {
-    for k in 0..count {
+    // By number: of what a slice ends as behind `chunks_exact_mut`, a proof knows the length alone.
+    for k in 0..cells.len() / CELL_LEN {
         let from = CELL_LEN * k;
         shift_cell(&mut cells[from..from + CELL_LEN], shift);
     }

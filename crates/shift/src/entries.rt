@@ -1,79 +1,11 @@
-// The entries of a grid, in reading order, moved to where a shift puts them.
+// The entries of a grid, LEN numbers each, in reading order, moved to where a shift puts them.
 ghost use Rattle.std.specs.Prelude.{◌≡◌, ◌+◌, ◌-◌, ◌*◌, ◌<◌, ◌≤◌, max, ◌++◌, length, take, drop, replicate};
-ghost use Rattle.formula.specs.Layout.{cell_len};
-ghost use Rattle.evaluate.specs.Limits.{max_cells};
-ghost use Rattle.recalc.specs.Entries.{entries_from};
+ghost use Rattle.recalc.specs.Entries.{entry, entries_from};
 ghost use Rattle.shift.specs.declared.shift.Change.TheVariants.{Insert, Delete};
-ghost use Rattle.shift.specs.Entries.{Within, coming, size_after, cells_of, Shiftable, first_entry, origin_behind, entry_or_zeros, placed, shifted_entries};
+ghost use Rattle.shift.specs.Entries.{coming, size_after, cells_of, first_entry, left_behind, most_behind, origin_behind, entry_or_zeros, placed, shifted_entries};
 
-use crate::shift::{Change, Shift};
-use recalc::Size;
-
-// Entry `to` becomes what entry `from` is, or zeros.
-fn put_entry(entries: &mut [u64], len: usize, from: Option<usize>, to: usize)
-    requires few { (len ≤ cell_len) × (to < max_cells) }
-    requires room { len * to + len ≤ length entries.old }
-    requires there { Within len from (length entries.old) }
-    ensures { entries.new ≡ take (len * to) entries.old ++ (entry_or_zeros len from entries.old ++ drop (len * to + len) entries.old) }
-{
-    let at = len * to;
-    match from {
-        Some(k) if k == to => {}
-        Some(k) => entries.copy_within(len * k..len * k + len, at),
-        None => entries[at..at + len].fill(0),
-    }
-}
-
-// Moves the entries behind an inserted line, the last one first, so that none is overwritten before it is moved.
-fn spread(part: &mut [u64], len: usize, size: Size, shift: Shift)
-    requires shiftable { Shiftable shift size }
-    requires change { shift.change ≡ Insert }
-    requires few { len ≤ cell_len }
-    requires room { len * (cells_of (size_after shift size) - first_entry shift size) ≤ length part.old }
-    ensures { part.new ≡ placed len (origin_behind shift size) (cells_of (size_after shift size) - first_entry shift size) part.old }
-{
-    for i in (0..shift.entries_behind(size)).rev() {
-        put_entry(part, len, shift.origin_behind(size, i), i);
-    }
-}
-
-// Moves the entries behind a deleted line, the first one first.
-fn gather(part: &mut [u64], len: usize, size: Size, shift: Shift)
-    requires shiftable { Shiftable shift size }
-    requires change { shift.change ≡ Delete }
-    requires few { len ≤ cell_len }
-    requires room { len * (cells_of size - first_entry shift size) ≤ length part.old }
-    ensures { part.new ≡ placed len (origin_behind shift size) (cells_of (size_after shift size) - first_entry shift size) part.old }
-{
-    for i in 0..shift.entries_behind(size) {
-        put_entry(part, len, shift.origin_behind(size, i), i);
-    }
-}
-
-// Moves the entries from the line of a shift on to where it puts them.
-fn move_behind(part: &mut [u64], len: usize, size: Size, shift: Shift)
-    requires shiftable { Shiftable shift size }
-    requires few { len ≤ cell_len }
-    requires before { len * (cells_of size - first_entry shift size) ≤ length part.old }
-    requires after { len * (cells_of (size_after shift size) - first_entry shift size) ≤ length part.old }
-    ensures { part.new ≡ placed len (origin_behind shift size) (cells_of (size_after shift size) - first_entry shift size) part.old }
-{
-    match shift.change {
-        Change::Insert => spread(part, len, size, shift),
-        Change::Delete => gather(part, len, size, shift),
-    }
-}
-
-// Moves all entries of a grid at the front of a row to where a shift puts them.
-fn move_entries(entries: &mut [u64], len: usize, size: Size, shift: Shift)
-    requires shiftable { Shiftable shift size }
-    requires few { len ≤ cell_len }
-    requires room { len * max (cells_of size) (cells_of (size_after shift size)) ≤ length entries.old }
-    ensures { entries.new ≡ entries_from (coming len shift size entries.old) 0 (cells_of (size_after shift size)) ++ drop (len * cells_of (size_after shift size)) entries.old }
-{
-    let first = len * shift.first_entry(size);
-    move_behind(&mut entries[first..], len, size, shift);
-}
+use crate::reshape::Reshape;
+use crate::shift::Change;
 
 fn clear(numbers: &mut [u64], from: usize, to: usize)
     requires { (from ≤ to) × (to ≤ length numbers.old) }
@@ -82,24 +14,78 @@ fn clear(numbers: &mut [u64], from: usize, to: usize)
     numbers[from..to].fill(0);
 }
 
-// How many entries there are before a shift or after it, whichever is more.
-fn most_entries(size: Size, shift: Shift) -> usize
-    requires { Shiftable shift size }
-    ensures { (result ≡ max (cells_of size) (cells_of (size_after shift size))) × (result ≤ max_cells) }
+fn copy_entry<const LEN: usize>(entries: &mut [u64], from: usize, to: usize)
+    requires { (LEN * from + LEN ≤ length entries.old) × (LEN * to + LEN ≤ length entries.old) }
+    ensures { entries.new ≡ take (LEN * to) entries.old ++ (entry LEN from entries.old ++ drop (LEN * to + LEN) entries.old) }
 {
-    let after = shift.size_after(size);
-    let count = (size.rows * size.cols) as usize;
-    count.max((after.rows * after.cols) as usize)
+    let start = LEN * from;
+    entries.copy_within(start..start + LEN, LEN * to);
+}
+
+// Entry `to` of those from the line on becomes what comes there, an entry or zeros.
+fn put_entry<const LEN: usize>(part: &mut [u64], reshape: Reshape, to: usize)
+    requires left { to < left_behind reshape.shift reshape.size }
+    requires room { LEN * most_behind reshape.shift reshape.size ≤ length part.old }
+    ensures { part.new ≡ take (LEN * to) part.old ++ (entry_or_zeros LEN (origin_behind reshape.shift reshape.size to) part.old ++ drop (LEN * to + LEN) part.old) }
+{
+    match reshape.origin_behind(to) {
+        Some(from) if from == to => {}
+        Some(from) => copy_entry::<LEN>(part, from, to),
+        None => clear(part, LEN * to, LEN * to + LEN),
+    }
+}
+
+// Moves the entries behind an inserted line, the last one first, so that none is overwritten before it is moved.
+fn spread<const LEN: usize>(part: &mut [u64], reshape: Reshape)
+    requires change { reshape.shift.change ≡ Insert }
+    requires room { LEN * most_behind reshape.shift reshape.size ≤ length part.old }
+    ensures { part.new ≡ placed LEN (origin_behind reshape.shift reshape.size) (left_behind reshape.shift reshape.size) part.old }
+{
+    for i in (0..reshape.entries_behind()).rev() {
+        put_entry::<LEN>(part, reshape, i);
+    }
+}
+
+// Moves the entries behind a deleted line, the first one first.
+// A second loop, and not one over an order that is passed: of that order it would be asked that no entry is overwritten before it is moved.
+fn gather<const LEN: usize>(part: &mut [u64], reshape: Reshape)
+    requires change { reshape.shift.change ≡ Delete }
+    requires room { LEN * most_behind reshape.shift reshape.size ≤ length part.old }
+    ensures { part.new ≡ placed LEN (origin_behind reshape.shift reshape.size) (left_behind reshape.shift reshape.size) part.old }
+{
+    for i in 0..reshape.entries_behind() {
+        put_entry::<LEN>(part, reshape, i);
+    }
+}
+
+// Moves the entries from the line of a shift on to where it puts them.
+fn move_behind<const LEN: usize>(part: &mut [u64], reshape: Reshape)
+    requires room { LEN * most_behind reshape.shift reshape.size ≤ length part.old }
+    ensures { part.new ≡ placed LEN (origin_behind reshape.shift reshape.size) (left_behind reshape.shift reshape.size) part.old }
+{
+    match reshape.shift.change {
+        Change::Insert => spread::<LEN>(part, reshape),
+        Change::Delete => gather::<LEN>(part, reshape),
+    }
+}
+
+// Moves all entries of a grid at the front of a row to where a shift puts them.
+fn move_entries<const LEN: usize>(entries: &mut [u64], reshape: Reshape)
+    requires room { LEN * max (cells_of reshape.size) (cells_of (size_after reshape.shift reshape.size)) ≤ length entries.old }
+    ensures { entries.new ≡ entries_from (coming LEN reshape.shift reshape.size entries.old) 0 (cells_of (size_after reshape.shift reshape.size)) ++ drop (LEN * cells_of (size_after reshape.shift reshape.size)) entries.old }
+{
+    move_behind::<LEN>(&mut entries[LEN * reshape.first_entry()..], reshape);
 }
 
 // Shifts the grid at the front of a row; what comes free becomes 0, and what lies behind stays as it was.
-pub fn shift_entries(entries: &mut [u64], len: usize, size: Size, shift: Shift)
-    requires shiftable { Shiftable shift size }
-    requires few { len ≤ cell_len }
-    requires room { len * max (cells_of size) (cells_of (size_after shift size)) ≤ length entries.old }
-    ensures { entries.new ≡ shifted_entries len shift size entries.old }
+pub(crate) fn shift_entries<const LEN: usize>(entries: &mut [u64], reshape: Reshape)
+    requires room { LEN * max (cells_of reshape.size) (cells_of (size_after reshape.shift reshape.size)) ≤ length entries.old }
+    ensures { entries.new ≡ shifted_entries LEN reshape.shift reshape.size entries.old }
 {
-    move_entries(entries, len, size, shift);
-    let left = shift.first_entry(size) + shift.entries_behind(size);
-    clear(entries, len * left, len * most_entries(size, shift));
+    move_entries::<LEN>(entries, reshape);
+    clear(
+        entries,
+        LEN * reshape.entries_after(),
+        LEN * reshape.most_entries(),
+    );
 }

@@ -3,38 +3,28 @@ ghost use Rattle.shift.specs.Laws.{InsertionKeeps, DeletionBlanks, EitherOrder, 
 ghost use Rattle.shift.specs.Stair.{StairShifts};
 
 // An insertion changes nothing that is shown, on every sheet of fewer than 2^64 - 1 lines; on a larger one it may.
-pub fn insertion_keeps_values() -> u8
+pub fn insertion_keeps_values()
     ensures keeps { InsertionKeeps }
     ensures bound { BoundIsNeeded }
-{
-    0
-}
+{}
 
 // A deletion shows what would be shown if the line were blank and what named it were lost.
-pub fn deletion_blanks_a_line() -> u8
+pub fn deletion_blanks_a_line()
     ensures { DeletionBlanks }
-{
-    0
-}
+{}
 
 // A change of rows and a change of columns come to the same in either order.
-pub fn either_order() -> u8
+pub fn either_order()
     ensures { EitherOrder }
-{
-    0
-}
+{}
 
 // Which lines a range has afterwards.
-pub fn ranges_keep_their_lines() -> u8
+pub fn ranges_keep_their_lines()
     ensures inserted { RangeInserted }
     ensures deleted { RangeDeleted }
-{
-    0
-}
+{}
 
 // A stair with a row inserted, with a row deleted, and with a reference lost.
-pub fn stair_shifts() -> u8
+pub fn stair_shifts()
     ensures { StairShifts }
-{
-    0
-}
+{}

@@ -1,15 +1,15 @@
 // Rows and columns that come and go: references, ranges, formulas, whole sheets and what they show.
 #![tactic(auto)]
 
-mod before;
+mod along;
 mod cells;
 mod entries;
 mod laws;
 mod memory;
 mod moves;
+mod reshape;
 mod sheet;
 mod shift;
-mod size;
 mod values;
 
 pub use laws::{
@@ -17,6 +17,7 @@ pub use laws::{
     stair_shifts,
 };
 pub use memory::shift_memory;
+pub use reshape::Reshape;
 pub use sheet::shift_sheet;
 pub use shift::{Axis, Change, Shift, Span};
 pub use values::insert_values;

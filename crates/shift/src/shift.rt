@@ -1,8 +1,12 @@
 // A row or a column that is inserted or deleted: where lines, references and ranges are afterwards.
-ghost use Rattle.std.specs.Prelude.{◌≡◌};
+ghost use Rattle.std.specs.Prelude.{◌≡◌, ◌<◌, Some, None};
+ghost use Rattle.shift.specs.Lines.{line_from};
 ghost use Rattle.shift.specs.Shifts.{by_axis, line_after, span_after, ref_after, range_after};
+ghost use Rattle.shift.specs.Sheets.{shift_allowed};
 
+use crate::along::Along;
 use formula::{CellRef, Range};
+use recalc::{Refusal, Size};
 
 #[derive(Clone, Copy)]
 pub enum Axis {
@@ -50,22 +54,23 @@ impl Shift {
         ensures { result ≡ line_after self n }
     {
         match self.change {
-            Change::Insert => {
-                if n < self.line || n == u64::MAX {
-                    Some(n)
-                } else {
-                    Some(n + 1)
-                }
-            }
-            Change::Delete => {
-                if n == self.line {
-                    None
-                } else if n < self.line {
-                    Some(n)
-                } else {
-                    Some(n - 1)
-                }
-            }
+            Change::Delete if n == self.line => None,
+            _ if n < self.line => Some(n),
+            Change::Insert => Some(n.saturating_add(1)),
+            Change::Delete => Some(n - 1),
+        }
+    }
+
+    // Where line n was; None if it is new.
+    pub(crate) fn line_before(self, n: u64) -> Option<u64>
+        requires { n < u64.MAX }
+        ensures { result ≡ line_from None self.change self.line Some n }
+    {
+        match self.change {
+            _ if n < self.line => Some(n),
+            Change::Insert if n == self.line => None,
+            Change::Insert => Some(n - 1),
+            Change::Delete => Some(n + 1),
         }
     }
 
@@ -77,21 +82,24 @@ impl Shift {
         let p = self.line;
         match self.change {
             Change::Insert => {
-                let start = if first < p || first == u64::MAX {
+                let start = if first < p {
                     first
                 } else {
-                    first + 1
+                    first.saturating_add(1)
                 };
-                let grows = first < p && p - first < count && count < u64::MAX;
+                let grows = first < p && p - first < count;
+                let lines = if grows {
+                    count.saturating_add(1)
+                } else {
+                    count
+                };
                 Some(Span {
                     first: start,
-                    count: if grows { count + 1 } else { count },
+                    count: lines,
                 })
             }
+            Change::Delete if first == p && count == 1 => None,
             Change::Delete => {
-                if first == p && count == 1 {
-                    return None;
-                }
                 let shrinks = first <= p && p - first < count;
                 Some(Span {
                     first: if p < first { first - 1 } else { first },
@@ -105,40 +113,30 @@ impl Shift {
     pub fn reference_after(self, cell: CellRef) -> Option<CellRef>
         ensures { result ≡ ref_after self cell }
     {
-        let line = self.line_after(self.axis.pick(cell.row, cell.col))?;
-        match self.axis {
-            Axis::Row => Some(CellRef {
-                row: line,
-                col: cell.col,
-            }),
-            Axis::Column => Some(CellRef {
-                row: cell.row,
-                col: line,
-            }),
-        }
+        let line = self.line_after(cell.along(self.axis))?;
+        Some(cell.with(self.axis, line))
     }
 
     // Where a range is afterwards; None if it had the deleted line and no other.
     pub fn range_after(self, range: Range) -> Option<Range>
         ensures { result ≡ range_after self range }
     {
-        let span = self.span_after(Span {
-            first: self.axis.pick(range.row, range.col),
-            count: self.axis.pick(range.rows, range.cols),
-        })?;
-        match self.axis {
-            Axis::Row => Some(Range {
-                row: span.first,
-                rows: span.count,
-                col: range.col,
-                cols: range.cols,
-            }),
-            Axis::Column => Some(Range {
-                row: range.row,
-                rows: range.rows,
-                col: span.first,
-                cols: span.count,
-            }),
+        let span = self.span_after(range.along(self.axis))?;
+        Some(range.with(self.axis, span))
+    }
+
+    // The first refusal that applies, where there may be as many rows and columns as `most` says.
+    pub fn check(self, size: Size, most: Size) -> Result<(), Refusal>
+        ensures { result ≡ shift_allowed self size most }
+    {
+        let lines = size.along(self.axis);
+        let most = most.along(self.axis);
+        match self.change {
+            Change::Insert if self.line > lines => Err(Refusal::NoLine),
+            Change::Insert if lines >= most => Err(Refusal::Full),
+            Change::Delete if self.line >= lines => Err(Refusal::NoLine),
+            Change::Delete if lines <= 1 => Err(Refusal::OnlyLine),
+            _ => Ok(()),
         }
     }
 }

@@ -1,8 +1,8 @@
 // Rows and columns inserted and deleted, at the edges and in the middle.
 use formula::{Cell, CellRef};
-use recalc::{Refusal, Size, cell_at, show_sheet};
+use recalc::{Size, cell_at, show_sheet};
 use samples::{add_cell, new_sheet};
-use shift::{Axis, Change, Shift, insert_values, shift_sheet};
+use shift::{Axis, Change, Reshape, Shift, insert_values, shift_sheet};
 use std::alloc::{AllocError, Global};
 use std::process::Abort;
 use std::test::*;
@@ -371,7 +371,13 @@ fn values_move_with_their_cells(rt: HostRuntime) -> Result<(), Fail> {
         line: 1,
         ..INSERT_ROW
     };
-    insert_values(&mut moved, Size { rows: 3, cols: 2 }, at);
+    insert_values(
+        &mut moved,
+        Reshape {
+            shift: at,
+            size: Size { rows: 3, cols: 2 },
+        },
+    );
     assert!(rt; shift_sheet(sheet.as_mut_slice(), at, Size { rows: 4, cols: 2 }).is_ok());
     let mut shown = [BEHIND; 20];
     assert!(rt; show_sheet(sheet.as_slice(), &mut shown).is_ok());

@@ -13,10 +13,10 @@ use Rattle.shift.proofs.memory.shift_memory.Goals as goal
 pub returns : goal.returns
 returns c =
     let xs = c.args.nums.now in
-    let d = c.args.shift in
-    let size = c.args.size in
+    let d = c.args.reshape.shift in
+    let size = c.args.reshape.size in
     let now = set (set (put_mid header_len (length xs - header_len) xs c.shift_grid.new.cells) 0 c.size_after-after.result.rows) 1 c.size_after-after.result.cols in
-    let s : Shiftable d (size_in xs) = subst (Shiftable d) c.requires.size c.requires.shiftable in
+    let s : Shiftable d (size_in xs) = subst (Shiftable d) c.requires.size c.args.reshape.shiftable in
     let is : now ≡ shifted_memory d xs =
     counts_set xs c.shift_grid.new.cells c.size_after-after.result.rows c.size_after-after.result.cols (omega (arith, c.requires.room))
     ∙ ap (λ (z : Size). z.rows ∷ z.cols ∷ c.shift_grid.new.cells) c.size_after-after.ensures
