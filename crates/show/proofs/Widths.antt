@@ -2,7 +2,7 @@
 use Rattle.std.proofs.Common.{◌≡◌, ℕ, zero, suc, ◌+◌, ◌-◌, ◌<◌, max, List, [], ◌∷◌, ◌++◌, length, refl, ap, ◌∙◌, arith, length-append}
 use Rattle.std.specs.List.{FoldsTo, concat}
 use Rattle.std.specs.Fmt.{WritesInCalls}
-use Rattle.show.specs.declared.width.Counter.{Counter}
+use Rattle.show.specs.declared.padded.Counter.{Counter}
 use Rattle.show.specs.Entries.{cell_entry}
 use Rattle.show.specs.Grids.{grid_text}
 use Rattle.show.specs.Table.{table_entry, largest, aligned}

@@ -6,6 +6,10 @@ use Rattle.show.specs.Texts.{texts}
 abbrev pub gap : List ℕ → ℕ → List ℕ
 gap between col = cond (col == 0) [] between
 
+-- each entry of a grid, and before it what stands there
+abbrev pub between : List ℕ → (ℕ → ℕ → List ℕ) → ℕ → ℕ → List ℕ
+between t f row col = gap t col ++ f row col
+
 abbrev pub row_text : (ℕ → ℕ → List ℕ) → ℕ → ℕ → List ℕ
 row_text f cols row = texts (f row) 0 cols ++ codes "\n"
 

@@ -1,40 +1,70 @@
-// Entries in rows and columns, a line a row.
-ghost use Rattle.std.specs.Prelude.{◌≡◌, ℕ, List, ◌++◌, string_bytes, OnOk};
-ghost use Rattle.show.specs.Grids.{gap, row_text, grid_text};
+// Entries in rows and columns, as text: a line a row.
+ghost use Rattle.std.specs.Prelude.{◌≡◌, ℕ, List, Some, codes};
+ghost use Rattle.show.specs.Grids.{gap, between, row_text, grid_text};
 
 use std::fmt;
-use std::fmt::Write;
+use std::fmt::Display;
 
 pub trait Grid {
-    // An entry by its row and column, with what stands before it in its line.
-    ghost entry: { Self → ℕ → ℕ → List ℕ };
+    type Entry: Display + Copy;
 
-    fn add_entry(&self, lines: &mut String, row: u64, col: u64) -> fmt::Result
-        ensures { OnOk result (string_bytes lines.new ≡ string_bytes lines.old ++ entry self.now row col) };
+    // The text of an entry, by its row and column.
+    ghost text: { Self → ℕ → ℕ → List ℕ };
+
+    fn entry(&self, row: u64, col: u64) -> Self::Entry
+        ensures { Self.Entry.output result ≡ Some (text self.now row col) };
 }
 
-// What stands before an entry.
-pub fn gap(between: &'static str, col: u64) -> &'static str
+// What stands before an entry: nothing in the first column.
+fn gap(between: &str, col: u64) -> &str
     ensures { result.now ≡ gap between.now col }
 {
     if col == 0 { "" } else { between }
 }
 
-fn add_row<G: Grid>(lines: &mut String, grid: &G, cols: u64, row: u64) -> fmt::Result
-    ensures { OnOk result (string_bytes lines.new ≡ string_bytes lines.old ++ row_text (G.entry grid.now) cols row) }
-{
-    for col in 0..cols {
-        grid.add_entry(lines, row, col)?;
-    }
-    writeln!(lines)?;
-    Ok(())
+#[derive(Clone, Copy)]
+struct Row<'a, G> {
+    grid: &'a G,
+    row: u64,
+    cols: u64,
+    between: &'a str,
 }
 
-pub fn add_grid<G: Grid>(lines: &mut String, grid: &G, rows: u64, cols: u64) -> fmt::Result
-    ensures { OnOk result (string_bytes lines.new ≡ string_bytes lines.old ++ grid_text (G.entry grid.now) rows cols) }
-{
-    for row in 0..rows {
-        add_row(lines, grid, cols, row)?;
+impl<G: Grid> Display for Row<'_, G> {
+    ghost output = { λ r. Some (row_text (between r.between.now (G.text r.grid.now)) r.cols r.row) };
+
+    fn fmt<W: fmt::Write>(&self, f: &mut fmt::Formatter<W>) -> fmt::Result {
+        for col in 0..self.cols {
+            let before = gap(self.between, col);
+            let entry = self.grid.entry(self.row, col);
+            write!(f, "{before}{entry}")?;
+        }
+        f.write_str("\n")
     }
-    Ok(())
+}
+
+// A grid's lines, with something between each two entries of a line.
+#[derive(Clone, Copy)]
+pub struct Lines<'a, G> {
+    pub grid: &'a G,
+    pub rows: u64,
+    pub cols: u64,
+    pub between: &'a str,
+}
+
+impl<G: Grid> Display for Lines<'_, G> {
+    ghost output = { λ l. Some (grid_text (between l.between.now (G.text l.grid.now)) l.rows l.cols) };
+
+    fn fmt<W: fmt::Write>(&self, f: &mut fmt::Formatter<W>) -> fmt::Result {
+        for row in 0..self.rows {
+            let line = Row {
+                grid: self.grid,
+                row,
+                cols: self.cols,
+                between: self.between,
+            };
+            line.fmt(f)?;
+        }
+        Ok(())
+    }
 }

@@ -1,44 +1,67 @@
 // The formulas of a sheet as text, a line a cell.
-ghost use Rattle.std.specs.Prelude.{◌≡◌, ◌*◌, ◌++◌, string_bytes, OnOk};
+ghost use Rattle.std.specs.Prelude.{◌≡◌, ◌*◌, Some};
 ghost use Rattle.formula.specs.Cells.{meant};
 ghost use Rattle.recalc.specs.Layout.{Sized};
-ghost use Rattle.show.specs.Listing.{formula_line, line_of, cell_lines};
+ghost use Rattle.show.specs.Listing.{line_of, cell_lines};
 
-use formula::Cell;
-use notation::{Notation, Place};
+use formula::{Cell, CellRef};
+use notation::Notation;
 use recalc::{Size, cell_at};
 use std::fmt;
-use std::fmt::Write;
+use std::fmt::Display;
 
-fn add_formula(lines: &mut String, place: Place, tokens: &[u64]) -> fmt::Result
-    ensures { OnOk result (string_bytes lines.new ≡ string_bytes lines.old ++ formula_line place.row place.col tokens.now) }
-{
-    let formula = Notation { tokens };
-    writeln!(lines, "{place} {formula}")?;
-    Ok(())
+#[derive(Clone, Copy)]
+struct Line<'a> {
+    place: CellRef,
+    cell: Cell<'a>,
 }
 
-// Adds a line, unless the cell is blank.
-fn add_line(lines: &mut String, place: Place, cell: Cell<'_>) -> fmt::Result
-    ensures { OnOk result (string_bytes lines.new ≡ string_bytes lines.old ++ line_of place.row place.col (meant cell.entry)) }
-{
-    match cell {
-        Cell::Formula(tokens) => add_formula(lines, place, tokens),
-        Cell::Blank | Cell::Malformed => Ok(()),
+// No line at all, unless the cell holds a formula.
+impl Display for Line<'_> {
+    ghost output = { λ l. Some (line_of l.place.row l.place.col (meant l.cell)) };
+
+    fn fmt<W: fmt::Write>(&self, f: &mut fmt::Formatter<W>) -> fmt::Result {
+        match self.cell {
+            Cell::Formula(tokens) => {
+                let place = self.place;
+                let formula = Notation { tokens };
+                writeln!(f, "{place} {formula}")
+            }
+            Cell::Blank | Cell::Malformed => Ok(()),
+        }
     }
 }
 
-// Adds the lines of all cells, in reading order.
-pub fn add_cells(lines: &mut String, nums: &[u64], size: Size) -> fmt::Result
-    requires { Sized nums.now size }
-    ensures { OnOk result (string_bytes lines.new ≡ string_bytes lines.old ++ cell_lines size.cols nums.now 0 (size.rows * size.cols)) }
-{
-    for index in 0..size.rows * size.cols {
-        let place = Place {
-            row: index / size.cols,
-            col: index % size.cols,
-        };
-        add_line(lines, place, cell_at(nums, index as usize))?;
+#[derive(Clone, Copy)]
+pub struct Listing<'a> {
+    pub nums: &'a [u64],
+    pub size: Size,
+    ghost sized: { Sized nums.now size },
+}
+
+impl<'a> Listing<'a> {
+    pub fn new(nums: &'a [u64], size: Size) -> Listing<'a>
+        requires { Sized nums.now size }
+        ensures numbers { result.nums.now ≡ nums.now }
+        ensures size { result.size ≡ size }
+    {
+        Listing { nums, size }
     }
-    Ok(())
+}
+
+// The lines of all cells, in reading order.
+impl Display for Listing<'_> {
+    ghost output = { λ l. Some (cell_lines l.size.cols l.nums.now 0 (l.size.rows * l.size.cols)) };
+
+    fn fmt<W: fmt::Write>(&self, f: &mut fmt::Formatter<W>) -> fmt::Result {
+        for index in 0..self.size.rows * self.size.cols {
+            let place = CellRef {
+                row: index / self.size.cols,
+                col: index % self.size.cols,
+            };
+            let cell = cell_at(self.nums, index as usize);
+            Line { place, cell }.fmt(f)?;
+        }
+        Ok(())
+    }
 }

@@ -2,38 +2,38 @@
 #![tactic(auto)]
 
 mod answer;
-mod cell;
 mod entry;
 mod failure;
 mod grid;
 mod listing;
+mod padded;
 mod seeing;
 mod table;
 #[cfg(test)]
 mod tests;
 mod values;
 mod view;
-mod width;
 
 use crate::answer::see_text;
-use crate::view::View;
+use crate::view::{NoSuchView, View};
 use anyhow::anyhow;
 use std::{env, io};
 
 // The view that the first argument names; without one, the values.
-fn view_asked(rt: &HostRuntime) -> anyhow::Result<Option<View>> {
-    let mut args = env::args(rt)?;
-    let _ = args.next();
-    match args.next() {
-        Some(word) => Ok(View::named(word.as_str())),
-        None => Ok(Some(View::Values)),
-    }
+fn view_asked(rt: &HostRuntime) -> anyhow::Result<Result<View, NoSuchView>> {
+    Ok(match env::args(rt)?.nth(1) {
+        Some(word) => word.as_str().parse(),
+        None => Ok(View::Values),
+    })
 }
 
 fn main(rt: HostRuntime) -> anyhow::Result<()> {
-    let Some(view) = view_asked(&rt)? else {
-        println!(rt; "usage: show [values | formulas | table] < SHEET")?;
-        return Err(anyhow!("no such view"));
+    let view = match view_asked(&rt)? {
+        Ok(view) => view,
+        Err(error) => {
+            println!(rt; "usage: show [values | formulas | table] < SHEET")?;
+            return Err(error.into());
+        }
     };
     let text = io::read_to_string(rt.alloc(), rt.stdin())?;
     match see_text(rt.alloc(), view, text.as_str()) {

@@ -1,45 +1,43 @@
 // A sheet as it is to be seen.
-ghost use Rattle.std.specs.Prelude.{◌≡◌, ◌*◌, ◌≤◌, ◌++◌, length, drop, Ok, string_bytes, OnOk};
+ghost use Rattle.std.specs.Prelude.{◌≡◌, ◌*◌, ◌≤◌, length, Ok, string_bytes, IfOk};
 ghost use Rattle.recalc.specs.Layout.{checked, Sized};
 ghost use Rattle.recalc.specs.Sheets.{sheet_in};
 ghost use Rattle.recalc.specs.Showing.{sheet_values};
 ghost use Rattle.show.specs.Views.{view_text};
 
-use crate::listing::add_cells;
-use crate::table::add_table;
-use crate::values::add_values;
+use crate::listing::Listing;
+use crate::table::Table;
+use crate::values::Values;
 use crate::view::View;
 use recalc::{Size, show_sheet};
-use std::fmt;
+use std::alloc::{AllocError, Global};
 
 // Two numbers for each cell of the largest sheet.
 pub const MAX_VALUES: usize = 960;
 
-fn fill_values(nums: &[u64], size: Size, values: &mut [u64])
+// What the cells show, in the front of a row.
+fn values_of<'a>(nums: &[u64], size: Size, row: &'a mut [u64]) -> Values<'a>
     requires checked { checked nums.now ≡ Ok size }
-    requires room { 2 * (size.rows * size.cols) ≤ length values.old }
-    ensures { values.new ≡ sheet_values (sheet_in nums.now) ++ drop (2 * (size.rows * size.cols)) values.old }
+    requires room { 2 * (size.rows * size.cols) ≤ length row.old }
+    ensures numbers { result.numbers.now ≡ sheet_values (sheet_in nums.now) }
+    ensures size { result.size ≡ size }
 {
-    let _ = show_sheet(nums, values);
+    let _ = show_sheet(nums, row);
+    let numbers = &row[..2 * (size.rows * size.cols) as usize];
+    Values { numbers, size }
 }
 
 // What the cells show, as text.
-pub fn add_shown(
-    lines: &mut String,
-    view: View,
-    nums: &[u64],
-    size: Size,
-    values: &mut [u64],
-) -> fmt::Result
-    requires checked { (checked nums.now ≡ Ok size) × (Sized nums.now size) }
-    requires room { 2 * (size.rows * size.cols) ≤ length values.old }
-    ensures { OnOk result (string_bytes lines.new ≡ string_bytes lines.old ++ view_text view nums.now size) }
+pub fn seen(heap: Global, view: View, nums: &[u64], size: Size) -> Result<String, AllocError>
+    requires checked { checked nums.now ≡ Ok size }
+    requires sized { Sized nums.now size }
+    ensures { IfOk result (λ s. string_bytes s ≡ view_text view nums.now size) }
 {
-    fill_values(nums, size, values);
-    let shown = &values[0..2 * (size.rows * size.cols) as usize];
+    let mut row = [0; MAX_VALUES];
+    let values = values_of(nums, size, &mut row);
     match view {
-        View::Values => add_values(lines, shown, size),
-        View::Formulas => add_cells(lines, nums, size),
-        View::Table => add_table(lines, shown, size),
+        View::Values => values.to_string(heap),
+        View::Formulas => Listing::new(nums, size).to_string(heap),
+        View::Table => Table::new(values).to_string(heap),
     }
 }

@@ -2,8 +2,8 @@
 ghost use Rattle.show.specs.Table.{Small};
 
 use crate::answer::see_text;
-use crate::table::add_table;
-use crate::values::add_values;
+use crate::table::Table;
+use crate::values::Values;
 use crate::view::View;
 use recalc::Size;
 use std::alloc::Global;
@@ -79,19 +79,16 @@ fn each_view_of_a_sheet(rt: HostRuntime) -> Result<(), Fail> {
 fn shows(
     rt: &impl Abort,
     heap: Global,
-    values: &[u64],
+    numbers: &[u64],
     size: Size,
     plain: &str,
     table: &str,
 ) -> Result<(), Fail>
     requires { Small size }
 {
-    let mut lines = String::new(heap);
-    add_values(&mut lines, values, size)?;
-    assert_eq!(rt; lines.as_str(), plain);
-    let mut lines = String::new(heap);
-    add_table(&mut lines, values, size)?;
-    assert_eq!(rt; lines.as_str(), table);
+    let values = Values { numbers, size };
+    assert_eq!(rt; values.to_string(heap)?.as_str(), plain);
+    assert_eq!(rt; Table::new(values).to_string(heap)?.as_str(), table);
     Ok(())
 }
 

@@ -1,37 +1,63 @@
-// The values of a sheet as text: a line a row, a space between two entries.
-ghost use Rattle.std.specs.Prelude.{◌≡◌, ◌++◌, string_bytes, OnOk};
-ghost use Rattle.show.specs.Values.{spaced_entry, values_text};
+// The values of a sheet, in a row: two numbers a cell, in reading order.
+ghost use Rattle.std.specs.Prelude.{◌≡◌, ◌+◌, ◌*◌, Some};
+ghost use Rattle.show.specs.Entries.{value_at, cell_entry, entry_text};
+ghost use Rattle.show.specs.Values.{values_text};
 
-use crate::cell::cell_entry;
-use crate::grid::{Grid, add_grid, gap};
+use crate::entry::Entry;
+use crate::grid::{Grid, Lines};
+use evaluate::Value;
 use recalc::Size;
 use std::fmt;
-use std::fmt::Write;
+use std::fmt::Display;
 
 #[derive(Clone, Copy)]
-struct Plain<'a> {
-    values: &'a [u64],
-    cols: u64,
+pub struct Values<'a> {
+    pub numbers: &'a [u64],
+    pub size: Size,
 }
 
-impl Grid for Plain<'_> {
-    ghost entry = { λ g. spaced_entry g.values.now g.cols };
+impl Values<'_> {
+    fn value_at(&self, index: u64) -> Option<Value>
+        ensures { result ≡ value_at self.now.numbers.now index }
+    {
+        let index = index as usize;
+        if index >= self.numbers.len() / 2 {
+            return None;
+        }
+        Value::try_from([self.numbers[2 * index], self.numbers[2 * index + 1]]).ok()
+    }
 
-    fn add_entry(&self, lines: &mut String, row: u64, col: u64) -> fmt::Result {
-        let before = gap(" ", col);
-        let entry = cell_entry(self.values, self.cols, row, col);
-        write!(lines, "{before}{entry}")?;
-        Ok(())
+    // No row of values reaches as far as an index that does not fit.
+    fn value(&self, row: u64, col: u64) -> Option<Value>
+        ensures { result ≡ value_at self.now.numbers.now (row * self.now.size.cols + col) }
+    {
+        self.value_at(row.checked_mul(self.size.cols)?.checked_add(col)?)
     }
 }
 
-// Two numbers a cell, in reading order; `?` where they stand for no value.
-pub fn add_values(lines: &mut String, values: &[u64], size: Size) -> fmt::Result
-    ensures { OnOk result (string_bytes lines.new ≡ string_bytes lines.old ++ values_text values.now size) }
-{
-    let plain = Plain {
-        values,
-        cols: size.cols,
-    };
-    add_grid(lines, &plain, size.rows, size.cols)
+impl Grid for Values<'_> {
+    type Entry = Entry;
+
+    ghost text = { λ v row col. entry_text (cell_entry v.numbers.now v.size.cols row col) };
+
+    fn entry(&self, row: u64, col: u64) -> Entry
+        ensures { result ≡ cell_entry self.now.numbers.now self.now.size.cols row col }
+    {
+        self.value(row, col).map_or(Entry::Unknown, Entry::Shown)
+    }
+}
+
+// A line a row, a space between two entries; `?` where two numbers stand for no value.
+impl Display for Values<'_> {
+    ghost output = { λ v. Some (values_text v.numbers.now v.size) };
+
+    fn fmt<W: fmt::Write>(&self, f: &mut fmt::Formatter<W>) -> fmt::Result {
+        let lines = Lines {
+            grid: self,
+            rows: self.size.rows,
+            cols: self.size.cols,
+            between: " ",
+        };
+        lines.fmt(f)
+    }
 }
