@@ -8,9 +8,7 @@ use Rattle.formula.specs.declared.token.Operator.{Operator}
 use Rattle.formula.specs.declared.token.Operator.TheVariants.{Add, Subtract, Multiply, Divide}
 use Rattle.formula.specs.Formula.{Formula, number, cell, fold, binary, if_less}
 use Rattle.formula.specs.Reading.{spelled}
-
-abbrev pub place_text : ℕ → ℕ → List ℕ
-place_text row col = decimal row ++ codes "," ++ decimal col
+use Rattle.formula.specs.Texts.{place_text}
 
 abbrev pub cell_text : Option CellRef → List ℕ
 cell_text (Some p) = codes "(" ++ place_text p.row p.col ++ codes ")"

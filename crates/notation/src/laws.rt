@@ -2,8 +2,6 @@
 ghost use Rattle.notation.specs.Laws.{WrittenNumbersAreRead};
 
 // Numbers that were written in decimal are read back.
-pub fn written_numbers_are_read() -> u8
+pub fn written_numbers_are_read()
     ensures { WrittenNumbersAreRead }
-{
-    0
-}
+{}

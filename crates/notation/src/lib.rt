@@ -4,11 +4,10 @@
 mod laws;
 mod notation;
 mod numbers;
-mod place;
+mod operand;
 mod text_error;
 
 pub use laws::written_numbers_are_read;
 pub use notation::Notation;
 pub use numbers::parse_numbers;
-pub use place::Place;
 pub use text_error::TextError;

@@ -1,7 +1,8 @@
 -- The formulas of a sheet as text. Assumes nothing: these are definitions.
 use Rattle.std.specs.Prelude.{ℕ, ◌*◌, ◌/◌, ◌%◌, List, [], ◌++◌, codes}
 use Rattle.formula.specs.Cells.{Content, blank, holds, malformed, content}
-use Rattle.notation.specs.Notation.{place_text, formula_text}
+use Rattle.formula.specs.Texts.{place_text}
+use Rattle.notation.specs.Notation.{formula_text}
 use Rattle.recalc.specs.Layout.{rows_in, cols_in, cell_numbers}
 use Rattle.show.specs.Texts.{texts}
 

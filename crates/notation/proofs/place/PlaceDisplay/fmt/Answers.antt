@@ -1,7 +1,0 @@
--- The pieces of a format stand one after another.
-use Rattle.std.proofs.Common.{append_assoc}
-use Rattle.std.proofs.Output.{has_written_of_eq}
-use Rattle.notation.proofs.place.PlaceDisplay.fmt.Goals as goal
-
-pub returns-clause-writes : goal.returns-clause-writes
-returns-clause-writes g c p ok = has_written_of_eq g.W.Write.write_str_gives _ _ _ _ (simp append_assoc) (c.write.ensures.writes p ok)
