@@ -1,8 +1,6 @@
 // Numbers read from a text: words of decimal digits between white space.
-ghost use Rattle.std.specs.Prelude.{◌≡◌, ◌++◌, Ok, MatchResult};
-ghost use Rattle.std.specs.Option.{option_to_list};
-ghost use Rattle.notation.specs.declared.text_error.TextError.TheVariants.{OutOfMemory};
-ghost use Rattle.notation.specs.Numbers.{white, appended, numbers_of};
+ghost use Rattle.std.specs.Prelude.{◌≡◌, Ok, MatchResult};
+ghost use Rattle.notation.specs.Numbers.{white, appended, number, numbers_of};
 ghost use Rattle.notation.specs.Errors.{Refuses};
 
 use crate::text_error::TextError;
@@ -24,35 +22,29 @@ fn append_digit(number: u64, byte: u8) -> Option<u64>
     number.checked_mul(10)?.checked_add(u64::from(byte - b'0'))
 }
 
-// Keeps the number of a word that has ended, if there was one.
-fn keep(numbers: &mut Vec<u64>, word: Option<u64>) -> Result<(), TextError>
-    ensures { MatchResult result (λ _. numbers.new.items ≡ numbers.old.items ++ option_to_list word) (λ e. e ≡ OutOfMemory) }
+// The number that a word of digits stands for.
+fn number(word: &[u8]) -> Option<u64>
+    ensures { result ≡ number word.now }
 {
-    if let Some(number) = word {
-        numbers.push(number)?;
+    let mut number = 0;
+    for byte in word {
+        number = append_digit(number, *byte)?;
     }
-    Ok(())
+    Some(number)
 }
 
 // All numbers of a text; or which word is the first that is no number.
 pub fn parse_numbers(heap: Global, text: &str) -> Result<Vec<u64>, TextError>
     ensures { MatchResult result (λ v. numbers_of text.now ≡ Ok v.items) (Refuses text.now) }
 {
-    let bytes = text.as_bytes();
+    let words = text
+        .as_bytes()
+        .split(|byte| is_white(*byte))
+        .filter(|word| !word.is_empty());
     let mut numbers = Vec::new(heap);
-    // The number of the word that has begun.
-    let mut word = None;
-    for byte in bytes {
-        if is_white(*byte) {
-            keep(&mut numbers, word)?;
-            word = None;
-        } else {
-            let Some(number) = append_digit(word.unwrap_or(0), *byte) else {
-                return Err(TextError::NotANumber(numbers.len() + 1));
-            };
-            word = Some(number);
-        }
+    for word in words {
+        let number = number(word).ok_or(TextError::NotANumber(numbers.len() + 1))?;
+        numbers.push(number)?;
     }
-    keep(&mut numbers, word)?;
     Ok(numbers)
 }

@@ -4,6 +4,7 @@ ghost use Rattle.notation.specs.declared.text_error.TextError.TheVariants.{OutOf
 ghost use Rattle.notation.specs.Errors.{error_text};
 
 use std::alloc::AllocFailed;
+use std::error::Error;
 use std::fmt;
 
 #[derive(Debug, Clone, Copy)]
@@ -13,6 +14,9 @@ pub enum TextError {
     OutOfMemory,
 }
 
+impl Error for TextError {}
+
+// By hand: what thiserror's derive prints has no contract.
 impl fmt::Display for TextError {
     ghost output = { λ e. Some (error_text e) };
 
