@@ -16,6 +16,7 @@ pub enum Failure {
     Sheet(Refusal),
 }
 
+// By hand: what thiserror's derive prints has no contract.
 impl Display for Failure {
     ghost output = { λ e. Some (failure_text e) };
 

@@ -36,6 +36,7 @@ pub struct Padded {
     pub entry: Entry,
 }
 
+// Not {:>width$}: the text of a value under a width is stated by no Display that it goes through.
 impl Display for Padded {
     ghost output = { λ p. Some (padded p.width (entry_text p.entry)) };
 

@@ -21,6 +21,7 @@ pub enum View {
 #[derive(Debug, Clone, Copy)]
 pub struct NoSuchView;
 
+// By hand: what thiserror's derive prints has no contract.
 impl fmt::Display for NoSuchView {
     ghost output = { λ _. Some (codes "no such view") };
 
