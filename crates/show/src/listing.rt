@@ -1,12 +1,11 @@
 // The formulas of a sheet as text, a line a cell.
-ghost use Rattle.std.specs.Prelude.{◌≡◌, ◌*◌, Some};
+ghost use Rattle.std.specs.Prelude.{Some};
 ghost use Rattle.formula.specs.Cells.{meant};
-ghost use Rattle.recalc.specs.Layout.{Sized};
-ghost use Rattle.show.specs.Listing.{line_of, cell_lines};
+ghost use Rattle.show.specs.Listing.{line_of, listing};
 
 use formula::{Cell, CellRef};
 use notation::Notation;
-use recalc::{Size, cell_at};
+use recalc::LentSheet;
 use std::fmt;
 use std::fmt::Display;
 
@@ -34,32 +33,21 @@ impl Display for Line<'_> {
 
 #[derive(Clone, Copy)]
 pub struct Listing<'a> {
-    pub nums: &'a [u64],
-    pub size: Size,
-    ghost sized: { Sized nums.now size },
-}
-
-impl<'a> Listing<'a> {
-    pub fn new(nums: &'a [u64], size: Size) -> Listing<'a>
-        requires { Sized nums.now size }
-        ensures numbers { result.nums.now ≡ nums.now }
-        ensures size { result.size ≡ size }
-    {
-        Listing { nums, size }
-    }
+    pub sheet: LentSheet<'a>,
 }
 
 // The lines of all cells, in reading order.
 impl Display for Listing<'_> {
-    ghost output = { λ l. Some (cell_lines l.size.cols l.nums.now 0 (l.size.rows * l.size.cols)) };
+    ghost output = { λ l. Some (listing l.sheet.nums.now) };
 
     fn fmt<W: fmt::Write>(&self, f: &mut fmt::Formatter<W>) -> fmt::Result {
-        for index in 0..self.size.rows * self.size.cols {
+        let cols = self.sheet.size().cols;
+        for k in 0..self.sheet.count() {
             let place = CellRef {
-                row: index / self.size.cols,
-                col: index % self.size.cols,
+                row: k as u64 / cols,
+                col: k as u64 % cols,
             };
-            let cell = cell_at(self.nums, index as usize);
+            let cell = self.sheet.cell(k);
             Line { place, cell }.fmt(f)?;
         }
         Ok(())

@@ -9,7 +9,7 @@ use crate::listing::Listing;
 use crate::table::Table;
 use crate::values::Values;
 use crate::view::View;
-use recalc::{Size, show_sheet};
+use recalc::{LentSheet, Size, show_sheet};
 use std::alloc::{AllocError, Global};
 
 // Two numbers for each cell of the largest sheet.
@@ -37,7 +37,10 @@ pub fn seen(heap: Global, view: View, nums: &[u64], size: Size) -> Result<String
     let values = values_of(nums, size, &mut row);
     match view {
         View::Values => values.to_string(heap),
-        View::Formulas => Listing::new(nums, size).to_string(heap),
+        View::Formulas => {
+            let sheet = LentSheet::of(nums);
+            Listing { sheet }.to_string(heap)
+        }
         View::Table => Table::new(values).to_string(heap),
     }
 }
