@@ -12,9 +12,6 @@ use crate::view::View;
 use recalc::{LentSheet, Size, show_sheet};
 use std::alloc::{AllocError, Global};
 
-// Two numbers for each cell of the largest sheet.
-pub const MAX_VALUES: usize = 960;
-
 // What the cells show, in the front of a row.
 fn values_of<'a>(nums: &[u64], size: Size, row: &'a mut [u64]) -> Values<'a>
     requires checked { checked nums.now ≡ Ok size }
@@ -33,7 +30,7 @@ pub fn seen(heap: Global, view: View, nums: &[u64], size: Size) -> Result<String
     requires sized { Sized nums.now size }
     ensures { IfOk result (λ s. string_bytes s ≡ view_text view nums.now size) }
 {
-    let mut row = [0; MAX_VALUES];
+    let mut row = vec![in heap; 0; 2 * (size.rows * size.cols) as usize]?;
     let values = values_of(nums, size, &mut row);
     match view {
         View::Values => values.to_string(heap),

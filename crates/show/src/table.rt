@@ -56,6 +56,7 @@ impl Table<'_> {
     fn column_widths(&self) -> Result<[usize; MAX_TABLE_COLUMNS], fmt::Error>
         ensures { IfOk result (λ ws. (col : ℕ) → col ≤ self.now.values.size.cols → slice_index ws col ≡ column_width self.now.values.numbers.now self.now.values.size col) }
     {
+        // An array for the largest sheet: a Display has no allocator to make a list with.
         let mut widths = [0; MAX_TABLE_COLUMNS];
         for (col, width) in widths[..=self.values.size.cols as usize]
             .iter_mut()
