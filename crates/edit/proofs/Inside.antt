@@ -52,6 +52,13 @@ pub ok_is : {A E : Type 0} (r : Result A E) → is_ok r ≡ true → (v : A) × 
 ok_is (Ok v) e = (v, refl)
 ok_is (Err x) e = absurd (grind arith)
 
+-- what is allowed is on the sheet
+pub place_inside : (w : code.Write) (s : Sheet) → is_ok (allowed w s) ≡ true → inside s w.place.row w.place.col ≡ true
+place_inside w s al =
+    let v = ok_is (allowed w s) al in
+    let a = allowed_is w s v.0 v.1 in
+    subst (λ r. inside s r w.place.col ≡ true) a.row (subst (λ c. inside s v.0.row c ≡ true) a.col a.within)
+
 -- cell number k is to be written
 module _ (w : code.Write) (xs vs : List ℕ) (k : ℕ) (ok : is_ok (checked xs) ≡ true) (e : k ≡ w.place.row * cols_in xs + w.place.col) where
   -- how many cells there are

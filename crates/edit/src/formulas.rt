@@ -8,7 +8,6 @@ ghost use Rattle.edit.specs.Places.{places_from};
 ghost use Rattle.edit.specs.Values.{formula_marked};
 
 use crate::place_list::PlaceList;
-use crate::values::place_of;
 use formula::Cell;
 use recalc::LentSheet;
 
@@ -26,7 +25,7 @@ pub fn list_recalculated(sheet: &LentSheet<'_>, dirty: &[bool], list: &mut Place
 {
     for (k, marked) in dirty.iter().enumerate() {
         if is_recalculated(sheet, *marked, k) {
-            list.add(place_of(sheet, k));
+            list.add(sheet.place(k));
         }
     }
 }

@@ -32,17 +32,6 @@ fn put_value(values: &mut [u64], k: usize, value: Value)
     values[2 * k..2 * k + 2].copy_from_slice(&numbers);
 }
 
-// Where cell k is.
-pub fn place_of(sheet: &LentSheet<'_>, k: usize) -> CellRef
-    ensures { result ≡ by_number (cols_in sheet.now.nums.now) the_ref k }
-{
-    let cols = sheet.size().cols;
-    CellRef {
-        row: k as u64 / cols,
-        col: k as u64 % cols,
-    }
-}
-
 fn is_changed(value: Value, before: Value) -> bool
     ensures { result ≡ differs value before }
 {
@@ -70,7 +59,7 @@ pub fn write_changes(
         let value = progress.known_value();
         if is_changed(value, before[k]) {
             put_value(values, k, value);
-            list.add(place_of(sheet, k));
+            list.add(sheet.place(k));
         }
     }
 }

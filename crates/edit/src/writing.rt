@@ -30,7 +30,7 @@ fn write_inside(
 {
     let before = LentSheet::of(nums);
     let n = before.count();
-    let k = (write.place.row * before.size().cols + write.place.col) as usize;
+    let k = before.number(write.place);
     room.note_before(values, n, k);
     put_cell(nums, k, write.formula);
     let after = LentSheet::of(nums);

@@ -1,6 +1,6 @@
 -- Cells by their numbers: what an attempt at one of them answers. Assumes nothing.
 use Rattle.std.specs.Prelude.{◌≡◌, ℕ, zero, suc, ◌+◌, ◌*◌, ◌/◌, ◌%◌, ◌<◌, ◌≤◌, Bool, true, false, cond, List, length, is_ok, Some, None, Ok, Err, Option, Result, nat_le, refl}
-use Rattle.std.proofs.Common.{sym, ap, subst, ◌∙◌, mul-zero, arith}
+use Rattle.std.proofs.Common.{sym, ap, ◌∙◌, mul-zero, arith}
 use Rattle.std.specs.Option.{unwrap_or, option_map}
 use Rattle.std.proofs.lemmas.Bool.{cond-true, leb-true, lt-ltb, le-leb}
 use Rattle.std.proofs.lemmas.Nat.{mul-le, div-add-mod', div_below, mod_below}
@@ -139,15 +139,11 @@ checked_size xs z e =
     go true false d o e = absurd (let y : ◌≡◌ {A = ℕ} 0 1 = cc in omega arith)
     go false b d o e = absurd (let y : ◌≡◌ {A = ℕ} 0 1 = cc in omega arith)
 
--- the number of a cell that is wanted is small
-pub wanted_small : (xs : List ℕ) (z : Size) (T : List Progress) (k : ℕ) (q : CellRef) → z ≡ size_in xs → is_ok (checked xs) ≡ true
-    → tried_cell (laid_known z.rows z.cols T) (nth_cell (sheet_in xs) k) ≡ Err q → q.row * z.cols + q.col < max_cells
-wanted_small xs z T k q same =
-    subst (λ (y : Size). is_ok (checked xs) ≡ true → tried_cell (laid_known y.rows y.cols T) (nth_cell (sheet_in xs) k) ≡ Err q → q.row * y.cols + q.col < max_cells) (sym same)
-    (λ ok e.
-    let sized = checked_sized xs ok in
-    let n = number_inside (sheet_in xs) q (wanted_inside (sheet_in xs) T k q e) in
-    omega (arith, n, mul-le (rows_in xs) (cols_in xs) max_rows max_columns sized.few_rows sized.few_cols))
+-- a place that is wanted is on the sheet
+pub wanted_there : (xs : List ℕ) (z : Size) (T : List Progress) (k : ℕ) (q : CellRef) → z ≡ size_in xs
+    → tried_cell (laid_known z.rows z.cols T) (nth_cell (sheet_in xs) k) ≡ Err q → inside (sheet_in xs) q.row q.col ≡ true
+wanted_there xs z T k q same e =
+    wanted_inside (sheet_in xs) T k q (ap (λ (y : Size). tried_cell (laid_known y.rows y.cols T) (nth_cell (sheet_in xs) k)) (sym same) ∙ e)
 
 -- what an attempt at a cell of the sheet in memory answers is what the engine asks
 pub lent_answers : (xs : List ℕ) (z : Size) (T : List Progress) (k : ℕ) → z ≡ size_in xs

@@ -4,10 +4,12 @@ ghost use Rattle.std.specs.Option.{option_and_then};
 ghost use Rattle.std.specs.Result.{result_map_both};
 ghost use Rattle.formula.specs.Expressions.{formula_of};
 ghost use Rattle.formula.specs.Cells.{content, meant};
+ghost use Rattle.formula.specs.Tokens.{the_ref};
 ghost use Rattle.evaluate.specs.Limits.{max_cells};
 ghost use Rattle.recalc.specs.Layout.{rows_in, cols_in, size_in, checked, cell_numbers};
-ghost use Rattle.recalc.specs.Sheets.{sheet_in};
-ghost use Rattle.recalc.specs.Numbered.{count, nth_cell, laid_known, tried, tried_cell, sheet_language};
+ghost use Rattle.recalc.specs.Entries.{by_number};
+ghost use Rattle.recalc.specs.Sheets.{inside, sheet_in};
+ghost use Rattle.recalc.specs.Numbered.{count, number_of, nth_cell, laid_known, tried, tried_cell, sheet_language};
 ghost use Rattle.recalc.specs.SheetLaws;
 
 use crate::filled::Filled;
@@ -70,6 +72,24 @@ impl<'a> LentSheet<'a> {
         cell_at(self.nums, k)
     }
 
+    // Where cell k is.
+    pub fn place(&self, k: usize) -> CellRef
+        ensures { result ≡ by_number (cols_in self.now.nums.now) the_ref k }
+    {
+        CellRef {
+            row: k as u64 / self.size.cols,
+            col: k as u64 % self.size.cols,
+        }
+    }
+
+    // Which cell is at a place.
+    pub fn number(&self, place: CellRef) -> usize
+        requires { inside (sheet_in self.now.nums.now) place.row place.col ≡ true }
+        ensures { result ≡ number_of (sheet_in self.now.nums.now) place }
+    {
+        (place.row * self.size.cols + place.col) as usize
+    }
+
     // The formula of cell k, which is well formed as each cell is; None if the cell is blank.
     fn formula(&self, k: usize) -> Option<Expression<'a>>
         requires { k < count (sheet_in self.now.nums.now) }
@@ -116,7 +136,7 @@ impl<'a> Formulas for LentSheet<'a> {
         match self.try_cell(k, table) {
             Ok(value) => Ok(value),
             // No map_err: that this number is small is known here, and not inside a closure.
-            Err(place) => Err((place.row * self.size.cols + place.col) as usize),
+            Err(place) => Err(self.number(place)),
         }
     }
 }

@@ -41,12 +41,8 @@ impl Display for Listing<'_> {
     ghost output = { λ l. Some (listing l.sheet.nums.now) };
 
     fn fmt<W: fmt::Write>(&self, f: &mut fmt::Formatter<W>) -> fmt::Result {
-        let cols = self.sheet.size().cols;
         for k in 0..self.sheet.count() {
-            let place = CellRef {
-                row: k as u64 / cols,
-                col: k as u64 % cols,
-            };
+            let place = self.sheet.place(k);
             let cell = self.sheet.cell(k);
             Line { place, cell }.fmt(f)?;
         }

@@ -25,6 +25,6 @@ loop-k-preserved c =
     let at : PlaceList → List CellRef = λ x. vec_items x.places in
     let inv = c.loop-k.invariant in
     elim c.if-is_recalculated.branch [
-      | then-is_recalculated w ↦ ap at w.list-is ∙ places_add cols f k _ _ _ inv w.add.ensures w.place_of.ensures (sym w.if-is_recalculated.ensures)
+      | then-is_recalculated w ↦ ap at w.list-is ∙ places_add cols f k _ _ _ inv w.add.ensures w.place.ensures (sym w.if-is_recalculated.ensures)
       | else-is_recalculated w ↦ ap at w.list-is ∙ places_pass cols f k _ inv (sym w.if-is_recalculated.ensures)
     ]

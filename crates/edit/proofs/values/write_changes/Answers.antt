@@ -41,7 +41,7 @@ loop-k-preserved c =
       | then-is_changed w ↦ (
         value_written t xs k c.loop-k.values _ n c.loop-k-test.true inv.0 (w.values-is ∙ w.put_value.ensures ∙ ap (with_value c.loop-k.values k) e),
         ap listed w.list-is
-            ∙ places_add (cols_in c.args.sheet.now.nums.now) f k _ _ _ inv.1 w.add.ensures w.place_of.ensures (tested ∙ sym w.if-is_changed.ensures),
+            ∙ places_add (cols_in c.args.sheet.now.nums.now) f k _ _ _ inv.1 w.add.ensures w.place.ensures (tested ∙ sym w.if-is_changed.ensures),
       )
       | else-is_changed w ↦ (
         let d = not_differs _ _ (sym w.if-is_changed.ensures) in

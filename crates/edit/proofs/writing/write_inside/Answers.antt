@@ -1,18 +1,22 @@
-use Rattle.std.proofs.Common.{◌≡◌, ℕ, ◌+◌, ◌*◌, ◌<◌, List, ◌++◌, length, drop, is_ok, sym, ap, ◌∙◌, subst, arith}
+use Rattle.std.proofs.Common.{◌≡◌, true, ℕ, ◌*◌, ◌<◌, List, ◌++◌, length, drop, is_ok, sym, ap, ◌∙◌, subst, arith}
 use Rattle.evaluate.specs.declared.value.Value.{Value}
-use Rattle.recalc.specs.declared.size.Size.{Size}
 use Rattle.recalc.specs.Layout.{cols_in}
-use Rattle.recalc.specs.Numbered.{count, sheet_language}
+use Rattle.recalc.specs.Numbered.{count, number_of, sheet_language}
 use Rattle.recalc.specs.Change.{shows, change, Updated}
 use Rattle.recalc.specs.Showing.{values_from, table_shows}
-use Rattle.recalc.specs.Sheets.{sheet_in}
+use Rattle.recalc.specs.Sheets.{inside, sheet_in}
 use Rattle.edit.specs.Writes.{allowed}
 use Rattle.edit.specs.Places.{places_from}
 use Rattle.edit.specs.Values.{value_at, table_differs, formula_marked}
 use Rattle.edit.specs.Memory.{WroteAsked}
 use Rattle.edit.specs.States.{state}
-use Rattle.edit.proofs.Inside.{allowed_is, ok_is, values_room, number_small, cell_room, still_ok, count_now, values_read, wrote}
+use Rattle.edit.proofs.Inside.{allowed_is, place_inside, ok_is, values_room, number_small, cell_room, still_ok, count_now, values_read, wrote}
 use Rattle.edit.proofs.writing.write_inside.Goals as goal
+
+pub number-k-requires : goal.number-k-requires
+number-k-requires c =
+    subst (λ ys. inside (sheet_in ys) c.args.write.place.row c.args.write.place.col ≡ true) (sym c.of-before.ensures)
+    (place_inside c.args.write (sheet_in c.args.nums.now) c.requires.allowed)
 
 pub note_before-requires-clause-room : goal.note_before-requires-clause-room
 note_before-requires-clause-room c =
@@ -20,9 +24,8 @@ note_before-requires-clause-room c =
     let xs = c.args.nums.now in
     let vs = c.args.values.now in
     let ok = c.requires.sheet in
-    let k = w.place.row * c.size.result.cols + w.place.col in
-    let at : k ≡ w.place.row * cols_in xs + w.place.col =
-    ap (λ n. w.place.row * n + w.place.col) (ap (λ (z : Size). z.cols) c.size.ensures.is ∙ ap cols_in c.of-before.ensures) in
+    let k = c.number-k.result in
+    let at : k ≡ number_of (sheet_in xs) w.place = c.number-k.ensures ∙ ap (λ ys. number_of (sheet_in ys) w.place) c.of-before.ensures in
     let n : c.count-n.result ≡ count (sheet_in xs) = c.count-n.ensures.is ∙ ap (λ ys. count (sheet_in ys)) c.of-before.ensures in
     omega (arith, values_room w xs vs k ok at c.requires.shown, n)
 
@@ -32,9 +35,8 @@ put_cell-requires c =
     let xs = c.args.nums.now in
     let vs = c.args.values.now in
     let ok = c.requires.sheet in
-    let k = w.place.row * c.size.result.cols + w.place.col in
-    let at : k ≡ w.place.row * cols_in xs + w.place.col =
-    ap (λ n. w.place.row * n + w.place.col) (ap (λ (z : Size). z.cols) c.size.ensures.is ∙ ap cols_in c.of-before.ensures) in
+    let k = c.number-k.result in
+    let at : k ≡ number_of (sheet_in xs) w.place = c.number-k.ensures ∙ ap (λ ys. number_of (sheet_in ys) w.place) c.of-before.ensures in
     cell_room w xs vs k ok at c.requires.allowed
 
 pub of-after-requires : goal.of-after-requires
@@ -43,9 +45,8 @@ of-after-requires c =
     let xs = c.args.nums.now in
     let vs = c.args.values.now in
     let ok = c.requires.sheet in
-    let k = w.place.row * c.size.result.cols + w.place.col in
-    let at : k ≡ w.place.row * cols_in xs + w.place.col =
-    ap (λ n. w.place.row * n + w.place.col) (ap (λ (z : Size). z.cols) c.size.ensures.is ∙ ap cols_in c.of-before.ensures) in
+    let k = c.number-k.result in
+    let at : k ≡ number_of (sheet_in xs) w.place = c.number-k.ensures ∙ ap (λ ys. number_of (sheet_in ys) w.place) c.of-before.ensures in
     let v = ok_is (allowed w (sheet_in xs)) c.requires.allowed in
     let a = allowed_is w (sheet_in xs) v.0 v.1 in
     still_ok w xs vs k ok at v.0 a c.put_cell.new.nums c.put_cell.ensures
@@ -56,9 +57,8 @@ recalculate-requires c =
     let xs = c.args.nums.now in
     let vs = c.args.values.now in
     let ok = c.requires.sheet in
-    let k = w.place.row * c.size.result.cols + w.place.col in
-    let at : k ≡ w.place.row * cols_in xs + w.place.col =
-    ap (λ n. w.place.row * n + w.place.col) (ap (λ (z : Size). z.cols) c.size.ensures.is ∙ ap cols_in c.of-before.ensures) in
+    let k = c.number-k.result in
+    let at : k ≡ number_of (sheet_in xs) w.place = c.number-k.ensures ∙ ap (λ ys. number_of (sheet_in ys) w.place) c.of-before.ensures in
     let n : c.count-n.result ≡ count (sheet_in xs) = c.count-n.ensures.is ∙ ap (λ ys. count (sheet_in ys)) c.of-before.ensures in
     let v = ok_is (allowed w (sheet_in xs)) c.requires.allowed in
     let a = allowed_is w (sheet_in xs) v.0 v.1 in
@@ -70,9 +70,8 @@ tell-requires-clause-room c =
     let xs = c.args.nums.now in
     let vs = c.args.values.now in
     let ok = c.requires.sheet in
-    let k = w.place.row * c.size.result.cols + w.place.col in
-    let at : k ≡ w.place.row * cols_in xs + w.place.col =
-    ap (λ n. w.place.row * n + w.place.col) (ap (λ (z : Size). z.cols) c.size.ensures.is ∙ ap cols_in c.of-before.ensures) in
+    let k = c.number-k.result in
+    let at : k ≡ number_of (sheet_in xs) w.place = c.number-k.ensures ∙ ap (λ ys. number_of (sheet_in ys) w.place) c.of-before.ensures in
     let n : c.count-n.result ≡ count (sheet_in xs) = c.count-n.ensures.is ∙ ap (λ ys. count (sheet_in ys)) c.of-before.ensures in
     omega (arith, values_room w xs vs k ok at c.requires.shown, ap length c.recalculate.ensures.before, c.note_before.ensures.count, n)
 
@@ -82,9 +81,8 @@ tell-requires-clause-shown c =
     let xs = c.args.nums.now in
     let vs = c.args.values.now in
     let ok = c.requires.sheet in
-    let k = w.place.row * c.size.result.cols + w.place.col in
-    let at : k ≡ w.place.row * cols_in xs + w.place.col =
-    ap (λ n. w.place.row * n + w.place.col) (ap (λ (z : Size). z.cols) c.size.ensures.is ∙ ap cols_in c.of-before.ensures) in
+    let k = c.number-k.result in
+    let at : k ≡ number_of (sheet_in xs) w.place = c.number-k.ensures ∙ ap (λ ys. number_of (sheet_in ys) w.place) c.of-before.ensures in
     let n : c.count-n.result ≡ count (sheet_in xs) = c.count-n.ensures.is ∙ ap (λ ys. count (sheet_in ys)) c.of-before.ensures in
     let v = ok_is (allowed w (sheet_in xs)) c.requires.allowed in
     let a = allowed_is w (sheet_in xs) v.0 v.1 in
@@ -101,9 +99,8 @@ returns c =
     let xs = c.args.nums.now in
     let vs = c.args.values.now in
     let ok = c.requires.sheet in
-    let k = w.place.row * c.size.result.cols + w.place.col in
-    let at : k ≡ w.place.row * cols_in xs + w.place.col =
-    ap (λ n. w.place.row * n + w.place.col) (ap (λ (z : Size). z.cols) c.size.ensures.is ∙ ap cols_in c.of-before.ensures) in
+    let k = c.number-k.result in
+    let at : k ≡ number_of (sheet_in xs) w.place = c.number-k.ensures ∙ ap (λ ys. number_of (sheet_in ys) w.place) c.of-before.ensures in
     let n : c.count-n.result ≡ count (sheet_in xs) = c.count-n.ensures.is ∙ ap (λ ys. count (sheet_in ys)) c.of-before.ensures in
     let bs = c.note_before.new.self.cells.before.items in
     let ms = c.note_before.new.self.cells.dirty.items in

@@ -1,7 +1,7 @@
 -- One line more.
-use Rattle.std.proofs.Common.{◌/◌, ◌%◌, Some, ap, ◌∙◌}
+use Rattle.std.proofs.Common.{Some, ap, ◌∙◌}
+use Rattle.formula.specs.declared.token.CellRef.{CellRef}
 use Rattle.formula.specs.Cells.{content}
-use Rattle.recalc.specs.declared.size.Size.{Size}
 use Rattle.recalc.specs.Layout.{cell_numbers}
 use Rattle.show.specs.Listing.{line_of}
 use Rattle.show.proofs.Texts.{none_written, one_more}
@@ -12,8 +12,7 @@ loop-k-init g c = none_written _ _ _
 
 pub loop-k-preserved : goal.loop-k-preserved
 loop-k-preserved g c =
-    let k = c.loop-k.k in
-    let cols = ap (λ (z : Size). z.cols) c.size-cols.ensures.is in
-    let cell = c.cell-cell.ensures in
+    let place = c.place-place.result in
     one_more _ _ _ _ _ _ _ c.loop-k.invariant c.in_ok-fmt.ensures.writes
-    (ap (λ x. Some (line_of (k / c.size-cols.result.cols) (k % c.size-cols.result.cols) x)) cell ∙ ap (λ w. Some (line_of (k / w) (k % w) (content (cell_numbers k c.args.self.now.sheet.nums.now)))) cols)
+    (ap (λ x. Some (line_of place.row place.col x)) c.cell-cell.ensures
+    ∙ ap (λ (p : CellRef). Some (line_of p.row p.col (content (cell_numbers c.loop-k.k c.args.self.now.sheet.nums.now)))) c.place-place.ensures)
