@@ -13,7 +13,7 @@ use Rattle.recalc.specs.Sheets.{Sheet, sheet_in}
 use Rattle.recalc.specs.Numbered.{count}
 use Rattle.recalc.specs.Change.{shows}
 use Rattle.recalc.specs.Entries.{entry}
-use Rattle.recalc.specs.Showing.{nth_shown, values_from, sheet_values, ShownIn, in_front, unless_refused, answered, kept, Shows, table_shows}
+use Rattle.recalc.specs.Showing.{nth_shown, values_from, sheet_values, ShownIn, in_front, and_then, answered, kept, Shows, table_shows}
 use Rattle.recalc.proofs.Entries.{entry_behind, around_entry, entries_length, FilledTo, filled_more}
 use Rattle.recalc.proofs.Rows.{two_numbers, values_length, value_entry}
 use Rattle.recalc.proofs.Numbered.{checked_size}
@@ -73,8 +73,8 @@ shown_first xs out row r e s = sized (checked xs) refl (sym s.0 ∙ e) s.1
     roomy true a b = row_shown (sheet_in xs) out row b
     roomy false a b = absurd (grind arith)
 
-    sized : (o : Result Size Refusal) → checked xs ≡ o → answered (unless_refused o (λ size. in_front (sheet_values (sheet_in xs)) (size.rows * size.cols) out)) ≡ Ok tt
-        → row ≡ kept out (unless_refused o (λ size. in_front (sheet_values (sheet_in xs)) (size.rows * size.cols) out)) → (is_ok (checked xs) ≡ true) × ShownIn (sheet_in xs) row
+    sized : (o : Result Size Refusal) → checked xs ≡ o → answered (and_then o (λ size. in_front (sheet_values (sheet_in xs)) (size.rows * size.cols) out)) ≡ Ok tt
+        → row ≡ kept out (and_then o (λ size. in_front (sheet_values (sheet_in xs)) (size.rows * size.cols) out)) → (is_ok (checked xs) ≡ true) × ShownIn (sheet_in xs) row
     sized (Ok size) d a b =
         let z = checked_size xs size d in
         let f : Size → Result (List ℕ) Refusal = λ y. in_front (sheet_values (sheet_in xs)) (y.rows * y.cols) out in

@@ -4,6 +4,7 @@ use denote.Ref.{Bor}
 use Rattle.std.specs.Option.{option_map}
 use Rattle.formula.specs.Formula as formula
 use Rattle.formula.specs.Reading.{spelled}
+pub use Rattle.formula.specs.Results.{answered}
 use Rattle.recalc.specs.declared.refusal.Refusal.{Refusal}
 use Rattle.recalc.specs.declared.refusal.Refusal.TheVariants.{Malformed, Outside}
 use Rattle.recalc.specs.Sheets.{Sheet, inside}
@@ -35,7 +36,3 @@ put_inside s r c (Some x) = cond (inside s r c) (Ok (record { row = r; col = c; 
 -- the write that the code asks for, or the first refusal that applies
 abbrev pub allowed : code.Write → Sheet → Result Write Refusal
 allowed w s = put_inside s w.place.row w.place.col (asked w.formula)
-
-abbrev pub answered : Result Write Refusal → Result (Unit {0}) Refusal
-answered (Ok w) = Ok tt
-answered (Err e) = Err e

@@ -8,6 +8,7 @@ use Rattle.formula.specs.Layout.{token_len, max_tokens, formula_len, cell_len}
 use Rattle.formula.specs.Formula as formula
 use Rattle.formula.specs.Reading.{spelled}
 use Rattle.formula.specs.Writing.{writes, token_count}
+pub use Rattle.formula.specs.Results.{answered, kept}
 
 pub data Content : Type 0 where
   blank : Content
@@ -53,12 +54,3 @@ stored_or xs (Some f) = Ok (stored f ++ drop cell_len xs)
 -- a row that begins with a cell, with the formula that the tokens spell written into it
 abbrev pub written : List ℕ → List ℕ → Result (List ℕ) NotWritten
 written xs ts = cond (nat_lt (length xs) cell_len) (Err why.Short) (stored_or xs (spelled ts))
-
--- what is answered, and what the row then holds: a refusal leaves it as it was
-abbrev pub answered : Result (List ℕ) NotWritten → Result (Unit {0}) NotWritten
-answered (Ok ys) = Ok tt
-answered (Err e) = Err e
-
-abbrev pub kept : List ℕ → Result (List ℕ) NotWritten → List ℕ
-kept xs (Ok ys) = ys
-kept xs (Err e) = xs

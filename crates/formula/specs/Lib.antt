@@ -4,6 +4,7 @@ pub mod Formula
 pub mod Spelling
 pub mod Reading
 pub mod Writing
+pub mod Results
 pub mod Cells
 pub mod Moving
 pub mod Laws

@@ -3,6 +3,7 @@ use Rattle.std.specs.Prelude.{◌≡◌, ℕ, zero, suc, ◌*◌, ◌/◌, ◌%�
 use Rattle.evaluate.specs.declared.value.Value.{Value}
 use Rattle.evaluate.specs.declared.value.Value.TheVariants.{Empty}
 use Rattle.evaluate.specs.Values.{value_numbers}
+pub use Rattle.formula.specs.Results.{answered, kept, and_then}
 use Rattle.recalc.specs.declared.size.Size.{Size}
 use Rattle.recalc.specs.declared.refusal.Refusal.{Refusal}
 use Rattle.recalc.specs.declared.refusal.Refusal.TheVariants.{NoRoom}
@@ -33,22 +34,9 @@ ShownIn s row = row ≡ sheet_values s ++ drop (2 * (s.rows * s.cols)) row
 abbrev pub in_front : List ℕ → ℕ → List ℕ → Result (List ℕ) Refusal
 in_front values n out = cond (nat_le (2 * n) (length out)) (Ok (values ++ drop (2 * n) out)) (Err (NoRoom (length out)))
 
-abbrev pub unless_refused : Result Size Refusal → (Size → Result (List ℕ) Refusal) → Result (List ℕ) Refusal
-unless_refused (Ok size) go = go size
-unless_refused (Err r) go = Err r
-
 -- the row after the sheet is shown, or the first refusal that applies
 abbrev pub shown_in : List ℕ → List ℕ → Result (List ℕ) Refusal
-shown_in xs out = unless_refused (checked xs) (λ size. in_front (sheet_values (sheet_in xs)) (size.rows * size.cols) out)
-
--- what is answered, and what the row then holds: a refusal leaves it as it was
-abbrev pub answered : Result (List ℕ) Refusal → Result (Unit {0}) Refusal
-answered (Ok ys) = Ok tt
-answered (Err e) = Err e
-
-abbrev pub kept : List ℕ → Result (List ℕ) Refusal → List ℕ
-kept xs (Ok ys) = ys
-kept xs (Err e) = xs
+shown_in xs out = and_then (checked xs) (λ size. in_front (sheet_values (sheet_in xs)) (size.rows * size.cols) out)
 
 abbrev pub value_known : Progress → Value
 value_known Waiting = Empty

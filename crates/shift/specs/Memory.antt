@@ -7,7 +7,7 @@ use Rattle.recalc.specs.declared.refusal.Refusal.{Refusal}
 use Rattle.recalc.specs.Layout.{header_len, size_in, fitting}
 use Rattle.recalc.specs.Entries.{entries_from}
 use Rattle.recalc.specs.Sheets.{sheet_in, Same}
-use Rattle.recalc.specs.Showing.{answered, kept}
+pub use Rattle.recalc.specs.Showing.{answered, kept, and_then}
 use Rattle.shift.specs.declared.shift.Shift.{Shift}
 use Rattle.shift.specs.Shifts.{ref_after, range_after}
 use Rattle.shift.specs.Entries.{size_after, cells_of, coming}
@@ -34,11 +34,6 @@ cells_after d size cells =
 -- the two counts, and the cells
 abbrev pub shifted_memory : Shift → List ℕ → List ℕ
 shifted_memory d xs = (size_after d (size_in xs)).rows ∷ (size_after d (size_in xs)).cols ∷ cells_after d (size_in xs) (drop header_len xs)
-
--- a step that is taken unless an earlier one is refused
-abbrev pub and_then : {A B : Type 0} → Result A Refusal → (A → Result B Refusal) → Result B Refusal
-and_then (Ok x) go = go x
-and_then (Err r) go = Err r
 
 -- the size of a sheet that can be shifted, or the first refusal that applies, where there may be as many rows and columns as `most` says
 abbrev pub shift_checked : Shift → Size → List ℕ → Result Size Refusal

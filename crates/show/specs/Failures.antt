@@ -1,5 +1,7 @@
 -- What is seen of a text, or why there is nothing to see. Assumes nothing: these are definitions.
 use Rattle.std.specs.Prelude.{◌≡◌, ℕ, List, Ok, Err, Result}
+use Rattle.std.specs.Result.{result_map_both}
+use Rattle.formula.specs.Results.{and_then}
 use Rattle.notation.specs.declared.text_error.TextError.TheVariants.{NotANumber, OutOfMemory}
 use Rattle.notation.specs.Errors.{error_text}
 use Rattle.notation.specs.Numbers.{numbers_of}
@@ -16,21 +18,13 @@ abbrev pub failure_text : Failure → List ℕ
 failure_text (Text e) = error_text e
 failure_text (Sheet r) = refusal_text r
 
-abbrev pub unless_refused : View → List ℕ → Result Size Refusal → Result (List ℕ) Failure
-unless_refused view xs (Ok size) = Ok (view_text view xs size)
-unless_refused view xs (Err r) = Err (Sheet r)
-
 -- of a sheet: its view, or the first refusal that applies
 abbrev pub sheet_seen : View → List ℕ → Result (List ℕ) Failure
-sheet_seen view xs = unless_refused view xs (checked xs)
-
-abbrev pub unless_no_number : View → Result (List ℕ) ℕ → Result (List ℕ) Failure
-unless_no_number view (Ok ns) = sheet_seen view ns
-unless_no_number view (Err word) = Err (Text (NotANumber word))
+sheet_seen view xs = result_map_both (view_text view xs) Sheet (checked xs)
 
 -- of a text: that of the sheet whose numbers it gives
 abbrev pub text_seen : View → List ℕ → Result (List ℕ) Failure
-text_seen view bs = unless_no_number view (numbers_of bs)
+text_seen view bs = and_then (result_map_both (λ ns. ns) (λ word. Text (NotANumber word)) (numbers_of bs)) (sheet_seen view)
 
 -- a failure is the one that is told, or want of memory
 abbrev pub Fails : Result (List ℕ) Failure → Failure → Type 0
