@@ -1,10 +1,11 @@
 -- What is known of the cells by their numbers, before a write and after it. Assumes nothing: these are definitions.
-use Rattle.std.specs.Prelude.{ℕ, ◌+◌, ◌*◌, Bool, ◌&&◌, List, ◌++◌, take, drop, is_some, slice_index}
+use Rattle.std.specs.Prelude.{ℕ, ◌+◌, ◌*◌, Bool, ◌&&◌, List, is_some, slice_index}
 use Rattle.std.specs.Option.{unwrap_or}
 use Rattle.formula.specs.Cells.{content}
 use Rattle.evaluate.specs.declared.value.Value.{Value}
 use Rattle.evaluate.specs.declared.value.Value.TheVariants.{Empty}
-use Rattle.evaluate.specs.Values.{value_numbers, value_in}
+use Rattle.evaluate.specs.Values.{value_in}
+pub use Rattle.evaluate.specs.Rows.{with_value}
 use Rattle.recalc.specs.declared.formulas.Progress.{Progress}
 use Rattle.recalc.specs.Layout.{cell_numbers}
 use Rattle.recalc.specs.Sheets.{formula_in}
@@ -15,10 +16,6 @@ use Rattle.edit.specs.Changes.{differs}
 -- the value of cell k in a row of values
 abbrev pub value_at : List ℕ → ℕ → Value
 value_at xs k = unwrap_or (value_in (slice_index xs (2 * k)) (slice_index xs (2 * k + 1))) Empty
-
--- a row with the value of cell k overwritten
-abbrev pub with_value : List ℕ → ℕ → Value → List ℕ
-with_value xs k v = take (2 * k) xs ++ (value_numbers v ++ drop (2 * k + 2) xs)
 
 -- that this is something else than before
 abbrev pub table_differs : List Progress → List Value → ℕ → Bool

@@ -20,16 +20,7 @@ pub fn value_at(values: &[u64], k: usize) -> Value
     requires { 2 * k + 2 ≤ length values.now }
     ensures { result ≡ value_at values.now k }
 {
-    Value::try_from([values[2 * k], values[2 * k + 1]]).unwrap_or(Value::Empty)
-}
-
-// Overwrites the value of cell k.
-fn put_value(values: &mut [u64], k: usize, value: Value)
-    requires { 2 * k + 2 ≤ length values.old }
-    ensures { values.new ≡ with_value values.old k value }
-{
-    let numbers = <[u64; 2]>::from(value);
-    values[2 * k..2 * k + 2].copy_from_slice(&numbers);
+    Value::read(values, k).unwrap_or(Value::Empty)
 }
 
 fn is_changed(value: Value, before: Value) -> bool
@@ -58,7 +49,7 @@ pub fn write_changes(
     for (k, progress) in table.iter().enumerate() {
         let value = progress.known_value();
         if is_changed(value, before[k]) {
-            put_value(values, k, value);
+            value.write(values, k);
             list.add(sheet.place(k));
         }
     }

@@ -1,5 +1,6 @@
 pub mod Limits
 pub mod Values
+pub mod Rows
 pub mod Traces
 pub mod Tallies
 pub mod Evaluation

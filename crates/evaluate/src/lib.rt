@@ -8,6 +8,7 @@ mod fold;
 mod laws;
 mod limits;
 mod reader;
+mod row;
 mod stop;
 mod tally;
 mod trail;

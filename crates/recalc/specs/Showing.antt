@@ -4,7 +4,6 @@ use Rattle.evaluate.specs.declared.value.Value.{Value}
 use Rattle.evaluate.specs.declared.value.Value.TheVariants.{Empty}
 use Rattle.evaluate.specs.Values.{value_numbers}
 pub use Rattle.formula.specs.Results.{answered, kept, and_then}
-use Rattle.recalc.specs.declared.size.Size.{Size}
 use Rattle.recalc.specs.declared.refusal.Refusal.{Refusal}
 use Rattle.recalc.specs.declared.refusal.Refusal.TheVariants.{NoRoom}
 use Rattle.recalc.specs.declared.formulas.Progress.{Progress}

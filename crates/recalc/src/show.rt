@@ -21,8 +21,7 @@ fn write_values(table: &[Progress], out: &mut [u64])
 {
     // Tried out.chunks_exact_mut(2) with zip: what the row then holds is not known after the loop.
     for (k, progress) in table.iter().enumerate() {
-        let numbers = <[u64; 2]>::from(progress.known_value());
-        out[2 * k..2 * k + 2].copy_from_slice(&numbers);
+        progress.known_value().write(out, k);
     }
 }
 

@@ -1,12 +1,10 @@
 -- What is seen of a text, or why there is nothing to see. Assumes nothing: these are definitions.
-use Rattle.std.specs.Prelude.{◌≡◌, ℕ, List, Ok, Err, Result}
+use Rattle.std.specs.Prelude.{◌≡◌, ℕ, List, Err, Result}
 use Rattle.std.specs.Result.{result_map_both}
 use Rattle.formula.specs.Results.{and_then}
 use Rattle.notation.specs.declared.text_error.TextError.TheVariants.{NotANumber, OutOfMemory}
 use Rattle.notation.specs.Errors.{error_text}
 use Rattle.notation.specs.Numbers.{numbers_of}
-use Rattle.recalc.specs.declared.refusal.Refusal.{Refusal}
-use Rattle.recalc.specs.declared.size.Size.{Size}
 use Rattle.recalc.specs.Refusals.{refusal_text}
 use Rattle.recalc.specs.Layout.{checked}
 use Rattle.show.specs.declared.failure.Failure.{Failure}

@@ -1,6 +1,7 @@
 // The values of a sheet, in a row: two numbers a cell, in reading order.
 ghost use Rattle.std.specs.Prelude.{◌≡◌, ◌+◌, ◌*◌, Some};
-ghost use Rattle.show.specs.Entries.{value_at, cell_entry, entry_text};
+ghost use Rattle.evaluate.specs.Rows.{value_at};
+ghost use Rattle.show.specs.Entries.{cell_entry, entry_text};
 ghost use Rattle.show.specs.Values.{values_text};
 
 use crate::entry::Entry;
@@ -17,21 +18,12 @@ pub struct Values<'a> {
 }
 
 impl Values<'_> {
-    fn value_at(&self, index: u64) -> Option<Value>
-        ensures { result ≡ value_at self.now.numbers.now index }
-    {
-        let index = index as usize;
-        if index >= self.numbers.len() / 2 {
-            return None;
-        }
-        Value::try_from([self.numbers[2 * index], self.numbers[2 * index + 1]]).ok()
-    }
-
     // No row of values reaches as far as an index that does not fit.
     fn value(&self, row: u64, col: u64) -> Option<Value>
         ensures { result ≡ value_at self.now.numbers.now (row * self.now.size.cols + col) }
     {
-        self.value_at(row.checked_mul(self.size.cols)?.checked_add(col)?)
+        let index = row.checked_mul(self.size.cols)?.checked_add(col)?;
+        Value::read(self.numbers, index as usize)
     }
 }
 

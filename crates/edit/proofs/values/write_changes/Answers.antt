@@ -39,7 +39,7 @@ loop-k-preserved c =
     let tested : f k ≡ differs c.known_value-value.result (shows vs k) = ap (λ v. differs v (shows vs k)) (sym e) in
     elim c.if-is_changed.branch [
       | then-is_changed w ↦ (
-        value_written t xs k c.loop-k.values _ n c.loop-k-test.true inv.0 (w.values-is ∙ w.put_value.ensures ∙ ap (with_value c.loop-k.values k) e),
+        value_written t xs k c.loop-k.values _ n c.loop-k-test.true inv.0 (w.values-is ∙ w.write.ensures ∙ ap (with_value c.loop-k.values k) e),
         ap listed w.list-is
             ∙ places_add (cols_in c.args.sheet.now.nums.now) f k _ _ _ inv.1 w.add.ensures w.place.ensures (tested ∙ sym w.if-is_changed.ensures),
       )

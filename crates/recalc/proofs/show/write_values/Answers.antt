@@ -1,7 +1,6 @@
-use Rattle.std.proofs.Common.{◌≡◌, ℕ, suc, ◌+◌, ◌-◌, ◌*◌, List, ◌++◌, length, take, drop, sym, ap, ◌∙◌, subst, arith}
-use borrow.Rule.Slice.PartMut.{put_mid}
-use Rattle.std.proofs.lemmas.List.{drop-drop}
+use Rattle.std.proofs.Common.{◌≡◌, ℕ, suc, ◌+◌, ◌*◌, List, ◌++◌, length, drop, sym, ap, ◌∙◌, subst, arith}
 use Rattle.evaluate.specs.Values.{value_numbers}
+use Rattle.evaluate.specs.Rows.{with_value}
 use Rattle.recalc.specs.Showing.{table_shows}
 use Rattle.recalc.proofs.Entries.{FilledTo, filled_none, filled_more}
 use Rattle.recalc.proofs.Rows.{two_numbers, filled_values, table_values}
@@ -16,13 +15,10 @@ loop-k-preserved c =
     let k = c.loop-k.k in
     let xs = c.loop-k.out in
     let f : ℕ → List ℕ = λ i. value_numbers (table_shows t i) in
-    let n : 2 * k + 2 - 2 * k ≡ 2 = omega arith in
     let e : suc k ≡ k + 1 = omega arith in
-    let next = put_mid (2 * k) (2 * k + 2 - 2 * k) xs c.copy_from_slice.new.self in
-    let is : c.copy_from_slice.new.self ≡ f k = c.copy_from_slice.ensures.after ∙ c.from-numbers.ensures.is ∙ ap value_numbers c.known_value.ensures in
-    subst (λ i. FilledTo f 2 c.args.out.now i next) e
-    (filled_more f 2 (length t) (λ i l. two_numbers (table_shows t i)) c.args.out.now k xs next c.loop-k-test.true c.loop-k.invariant
-    (ap (put_mid (2 * k) (2 * k + 2 - 2 * k) xs) is ∙ ap (λ m. put_mid (2 * k) m xs (f k)) n ∙ ap (λ ys. take (2 * k) xs ++ (f k ++ ys)) (drop-drop 2 (2 * k) xs)))
+    subst (λ i. FilledTo f 2 c.args.out.now i c.write.new.values) e
+    (filled_more f 2 (length t) (λ i l. two_numbers (table_shows t i)) c.args.out.now k xs c.write.new.values c.loop-k-test.true c.loop-k.invariant
+    (c.write.ensures ∙ ap (with_value xs k) c.known_value.ensures))
 
 pub returns : goal.returns
 returns c =

@@ -2,7 +2,7 @@ use Rattle.std.proofs.Common.{◌≡◌, ◌+◌, ◌-◌, ◌*◌, ◌++◌, ta
 use borrow.Rule.Slice.PartMut.{put_mid}
 use Rattle.std.proofs.lemmas.List.{drop-drop}
 use Rattle.evaluate.specs.Values.{value_numbers}
-use Rattle.edit.proofs.values.put_value.Goals as goal
+use Rattle.evaluate.proofs.value.Value.write.Goals as goal
 
 pub returns : goal.returns
 returns c =
@@ -10,5 +10,5 @@ returns c =
     let at = 2 * c.args.k in
     let n : at + 2 - at ≡ 2 = omega arith in
     ap (put_mid at (at + 2 - at) xs) (c.copy_from_slice.ensures.after ∙ c.from-numbers.ensures.is)
-    ∙ ap (λ m. put_mid at m xs (value_numbers c.args.value)) n
-    ∙ ap (λ ys. take at xs ++ (value_numbers c.args.value ++ ys)) (drop-drop 2 at xs)
+    ∙ ap (λ m. put_mid at m xs (value_numbers c.args.self)) n
+    ∙ ap (λ ys. take at xs ++ (value_numbers c.args.self ++ ys)) (drop-drop 2 at xs)
