@@ -6,7 +6,7 @@ ghost use Rattle.formula.specs.Expressions.{formula_of};
 ghost use Rattle.formula.specs.Cells.{content, meant};
 ghost use Rattle.formula.specs.Tokens.{the_ref};
 ghost use Rattle.evaluate.specs.Limits.{max_cells};
-ghost use Rattle.recalc.specs.Layout.{rows_in, cols_in, size_in, checked, cell_numbers};
+ghost use Rattle.recalc.specs.Layout.{rows_in, cols_in, size_in, checked, cell_numbers, Sized};
 ghost use Rattle.recalc.specs.Entries.{by_number};
 ghost use Rattle.recalc.specs.Sheets.{inside, sheet_in};
 ghost use Rattle.recalc.specs.Numbered.{count, number_of, nth_cell, laid_known, tried, tried_cell, sheet_language};
@@ -53,6 +53,7 @@ impl<'a> LentSheet<'a> {
     pub fn size(&self) -> Size
         ensures is { result ≡ size_in self.now.nums.now }
         ensures same { result ≡ self.now.size }
+        ensures sized { Sized self.now.nums.now result }
     {
         self.size
     }

@@ -37,17 +37,19 @@ fn new_cells(n: usize) -> Recalculation<MAX_CELLS>
     cells
 }
 
-// Puts what each cell shows into `out`.
-fn show_in(sheet: &LentSheet<'_>, out: &mut [u64])
-    requires { 2 * count (sheet_in sheet.now.nums.now) ≤ length out.old }
-    ensures { out.new ≡ sheet_values (sheet_in sheet.now.nums.now) ++ drop (2 * count (sheet_in sheet.now.nums.now)) out.old }
-{
-    let mut cells = new_cells(sheet.count());
-    cells.run(sheet);
-    write_values(cells.table(), out);
+impl LentSheet<'_> {
+    // Writes what each cell shows into the front of a row, two numbers a cell in reading order.
+    pub fn show(&self, out: &mut [u64])
+        requires { 2 * count (sheet_in self.now.nums.now) ≤ length out.old }
+        ensures { out.new ≡ sheet_values (sheet_in self.now.nums.now) ++ drop (2 * count (sheet_in self.now.nums.now)) out.old }
+    {
+        let mut cells = new_cells(self.count());
+        cells.run(self);
+        write_values(cells.table(), out);
+    }
 }
 
-// Writes what each cell shows into the row, two numbers a cell in reading order; a refusal leaves it as it was.
+// The same of a memory that has yet to be checked; a refusal leaves the row as it was.
 pub fn show_sheet(nums: &[u64], out: &mut [u64]) -> Result<(), Refusal>
     ensures { Shows nums.now out.old result out.new }
 {
@@ -55,6 +57,6 @@ pub fn show_sheet(nums: &[u64], out: &mut [u64]) -> Result<(), Refusal>
     if out.len() < 2 * sheet.count() {
         return Err(Refusal::NoRoom(out.len()));
     }
-    show_in(&sheet, out);
+    sheet.show(out);
     Ok(())
 }

@@ -6,15 +6,15 @@ use crate::failure::Failure;
 use crate::seeing::seen;
 use crate::view::View;
 use notation::parse_numbers;
-use recalc::check_sheet;
+use recalc::LentSheet;
 use std::alloc::Global;
 
 // The view of a sheet.
 pub fn see_sheet(heap: Global, view: View, nums: &[u64]) -> Result<String, Failure>
     ensures { MatchResult result (λ s. sheet_seen view nums.now ≡ Ok (string_bytes s)) (Fails (sheet_seen view nums.now)) }
 {
-    let size = check_sheet(nums)?;
-    Ok(seen(heap, view, nums, size)?)
+    let sheet = LentSheet::check(nums)?;
+    Ok(seen(heap, view, sheet)?)
 }
 
 // The same of a sheet that is given as decimal numbers.

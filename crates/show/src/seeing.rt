@@ -1,6 +1,6 @@
 // A sheet as it is to be seen.
-ghost use Rattle.std.specs.Prelude.{◌≡◌, ◌*◌, ◌≤◌, length, Ok, string_bytes, IfOk};
-ghost use Rattle.recalc.specs.Layout.{checked, Sized};
+ghost use Rattle.std.specs.Prelude.{◌≡◌, string_bytes, IfOk};
+ghost use Rattle.recalc.specs.Layout.{size_in};
 ghost use Rattle.recalc.specs.Sheets.{sheet_in};
 ghost use Rattle.recalc.specs.Showing.{sheet_values};
 ghost use Rattle.show.specs.Views.{view_text};
@@ -9,35 +9,32 @@ use crate::listing::Listing;
 use crate::table::Table;
 use crate::values::Values;
 use crate::view::View;
-use recalc::{LentSheet, Size, show_sheet};
+use recalc::LentSheet;
 use std::alloc::{AllocError, Global};
 
-// What the cells show, in the front of a row.
-fn values_of<'a>(nums: &[u64], size: Size, row: &'a mut [u64]) -> Values<'a>
-    requires checked { checked nums.now ≡ Ok size }
-    requires room { 2 * (size.rows * size.cols) ≤ length row.old }
-    ensures numbers { result.numbers.now ≡ sheet_values (sheet_in nums.now) }
-    ensures size { result.size ≡ size }
+// What the cells show, two numbers a cell in reading order.
+fn values_of(heap: Global, sheet: &LentSheet<'_>) -> Result<Vec<u64>, AllocError>
+    ensures { IfOk result (λ row. row.items ≡ sheet_values (sheet_in sheet.now.nums.now)) }
 {
-    let _ = show_sheet(nums, row);
-    let numbers = &row[..2 * (size.rows * size.cols) as usize];
-    Values { numbers, size }
+    let mut row = vec![in heap; 0; 2 * sheet.count()]?;
+    sheet.show(&mut row);
+    Ok(row)
 }
 
-// What the cells show, as text.
-pub fn seen(heap: Global, view: View, nums: &[u64], size: Size) -> Result<String, AllocError>
-    requires checked { checked nums.now ≡ Ok size }
-    requires sized { Sized nums.now size }
-    ensures { IfOk result (λ s. string_bytes s ≡ view_text view nums.now size) }
+// The text of a view; the formulas need no values.
+pub fn seen(heap: Global, view: View, sheet: LentSheet<'_>) -> Result<String, AllocError>
+    ensures { IfOk result (λ s. string_bytes s ≡ view_text view sheet.entry.nums.now (size_in sheet.entry.nums.now)) }
 {
-    let mut row = vec![in heap; 0; 2 * (size.rows * size.cols) as usize]?;
-    let values = values_of(nums, size, &mut row);
+    if let View::Formulas = view {
+        return Listing { sheet }.to_string(heap);
+    }
+    let row = values_of(heap, &sheet)?;
+    let values = Values {
+        numbers: row.as_slice(),
+        size: sheet.size(),
+    };
     match view {
-        View::Values => values.to_string(heap),
-        View::Formulas => {
-            let sheet = LentSheet::of(nums);
-            Listing { sheet }.to_string(heap)
-        }
         View::Table => Table::new(values).to_string(heap),
+        _ => values.to_string(heap),
     }
 }

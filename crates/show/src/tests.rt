@@ -6,33 +6,29 @@ use crate::table::Table;
 use crate::values::Values;
 use crate::view::View;
 use recalc::Size;
-use std::alloc::Global;
 use std::process::Abort;
 use std::test::Fail;
 
-fn refuses(rt: &impl Abort, heap: Global, text: &str, line: &str) -> Result<(), Fail> {
-    match see_text(heap, View::Values, text) {
-        Ok(_) => Err(Fail::new("shown")),
-        Err(failure) => {
-            let told = format!(in heap; "{failure}")?;
-            assert_eq!(rt; told.as_str(), line, "{}", text);
-            Ok(())
-        }
-    }
+fn refuses(rt: &(impl Abort + AllocGlobal), text: &str, line: &str) -> Result<(), Fail> {
+    let heap = rt.alloc();
+    let Err(failure) = see_text(heap, View::Values, text) else {
+        return Err(Fail::new("shown"));
+    };
+    let told = format!(in heap; "{failure}")?;
+    assert_eq!(rt; told.as_str(), line, "{}", text);
+    Ok(())
 }
 
 #[test]
 fn bad_sheets_are_refused(rt: HostRuntime) -> Result<(), Fail> {
-    let heap = rt.alloc();
-    refuses(&rt, heap, "", "refused 1 at 0")?;
-    refuses(&rt, heap, "0 13", "refused 1 at 0")?;
-    refuses(&rt, heap, "41 12", "refused 1 at 0")?;
-    refuses(&rt, heap, "40", "refused 1 at 1")?;
-    refuses(&rt, heap, "40 13", "refused 1 at 1")?;
-    refuses(&rt, heap, "1 1 0 0 0", "refused 3 at 5")?;
+    refuses(&rt, "", "refused 1 at 0")?;
+    refuses(&rt, "0 13", "refused 1 at 0")?;
+    refuses(&rt, "41 12", "refused 1 at 0")?;
+    refuses(&rt, "40", "refused 1 at 1")?;
+    refuses(&rt, "40 13", "refused 1 at 1")?;
+    refuses(&rt, "1 1 0 0 0", "refused 3 at 5")?;
     refuses(
         &rt,
-        heap,
         "1 one",
         "word 2 is no number from 0 to 18446744073709551615",
     )
@@ -43,24 +39,23 @@ fn bad_sheets_are_refused(rt: HostRuntime) -> Result<(), Fail> {
 fn a_malformed_cell_is_told(rt: HostRuntime) -> Result<(), Fail> {
     let heap = rt.alloc();
     let mut text = String::from_str(heap, "1 2")?;
-    for _ in 0..61 {
-        text.push_str(" 0")?;
-    }
+    text.push_str(" 0".repeat(heap, 61)?.as_str())?;
     text.push_str(" 1 14")?;
-    for _ in 0..59 {
-        text.push_str(" 0")?;
-    }
-    refuses(&rt, heap, text.as_str(), "refused 4 at 1")
+    text.push_str(" 0".repeat(heap, 59)?.as_str())?;
+    refuses(&rt, text.as_str(), "refused 4 at 1")
 }
 
-fn sees(rt: &impl Abort, heap: Global, view: View, text: &str, expected: &str) -> Result<(), Fail> {
-    match see_text(heap, view, text) {
-        Ok(lines) => {
-            assert_eq!(rt; lines.as_str(), expected);
-            Ok(())
-        },
-        Err(_) => Err(Fail::new("refused")),
-    }
+fn sees(
+    rt: &(impl Abort + AllocGlobal),
+    view: View,
+    text: &str,
+    expected: &str,
+) -> Result<(), Fail> {
+    let Ok(lines) = see_text(rt.alloc(), view, text) else {
+        return Err(Fail::new("refused"));
+    };
+    assert_eq!(rt; lines.as_str(), expected);
+    Ok(())
 }
 
 // A sheet of one cell that holds 14.
@@ -68,17 +63,14 @@ fn sees(rt: &impl Abort, heap: Global, view: View, text: &str, expected: &str) -
 fn each_view_of_a_sheet(rt: HostRuntime) -> Result<(), Fail> {
     let heap = rt.alloc();
     let mut text = String::from_str(heap, "1 1 1 0 14")?;
-    for _ in 0..58 {
-        text.push_str(" 0")?;
-    }
-    sees(&rt, heap, View::Values, text.as_str(), "14\n")?;
-    sees(&rt, heap, View::Formulas, text.as_str(), "0,0 14\n")?;
-    sees(&rt, heap, View::Table, text.as_str(), "    0\n0  14\n")
+    text.push_str(" 0".repeat(heap, 58)?.as_str())?;
+    sees(&rt, View::Values, text.as_str(), "14\n")?;
+    sees(&rt, View::Formulas, text.as_str(), "0,0 14\n")?;
+    sees(&rt, View::Table, text.as_str(), "    0\n0  14\n")
 }
 
 fn shows(
-    rt: &impl Abort,
-    heap: Global,
+    rt: &(impl Abort + AllocGlobal),
     numbers: &[u64],
     size: Size,
     plain: &str,
@@ -86,6 +78,7 @@ fn shows(
 ) -> Result<(), Fail>
     requires { Small size }
 {
+    let heap = rt.alloc();
     let values = Values { numbers, size };
     assert_eq!(rt; values.to_string(heap)?.as_str(), plain);
     assert_eq!(rt; Table::new(values).to_string(heap)?.as_str(), table);
@@ -97,7 +90,6 @@ fn shows(
 fn values_are_shown(rt: HostRuntime) -> Result<(), Fail> {
     shows(
         &rt,
-        rt.alloc(),
         &[1, 490, 0, 0, 2, 1, 2, 2, 2, 3, 2, 4],
         Size { rows: 2, cols: 3 },
         "490 . by-nothing\ntoo-big lost ring\n",
@@ -109,7 +101,6 @@ fn values_are_shown(rt: HostRuntime) -> Result<(), Fail> {
     )?;
     shows(
         &rt,
-        rt.alloc(),
         &[3, 0, 1],
         Size { rows: 1, cols: 2 },
         "? ?\n",
