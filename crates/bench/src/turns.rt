@@ -1,35 +1,21 @@
 // The two ways that are compared: the first cell is written so many times, 0 and 1 in turn.
-ghost use Rattle.std.specs.Prelude.{◌≡◌, true, is_ok};
-ghost use Rattle.recalc.specs.Layout.{checked};
-ghost use Rattle.recalc.specs.Sheets.{sheet_in};
-ghost use Rattle.recalc.specs.Showing.{ShownIn};
-
-use edit::{Changes, Room, Write, write_cell};
+use edit::{Changes, Room, ShownSheet, Write};
 use formula::{Cell, CellRef};
 use recalc::{HEADER_LEN, Refusal, show_sheet};
 
-fn write_turns(
-    nums: &mut [u64],
-    values: &mut [u64],
-    last: usize,
-    turns: u64,
-    room: &mut Room,
-    changes: &mut Changes,
-) -> u64
-    requires sheet { is_ok (checked nums.old) ≡ true }
-    requires shown { ShownIn (sheet_in nums.old) values.old }
+// What is seen after each turn, summed up.
+fn sum_of_turns<F: FnMut(&[u64]) -> u64>(turns: u64, mut turn: F) -> u64
+    requires { F.IsAlwaysCallable turn }
 {
     let mut seen = 0u64;
-    for turn in 0..turns {
-        let tokens = [0, turn % 2, 0, 0, 0];
-        let write = Write {
-            place: CellRef { row: 0, col: 0 },
-            formula: Some(&tokens),
-        };
-        let _ = write_cell(nums, values, write, room, changes);
-        seen = seen.wrapping_add(values.get(last).copied().unwrap_or(0));
+    for n in 0..turns {
+        seen = seen.wrapping_add(turn(&[0, n % 2, 0, 0, 0]));
     }
     seen
+}
+
+fn seen_at(values: &[u64], index: usize) -> u64 {
+    values.get(index).copied().unwrap_or(0)
 }
 
 // Each write recalculates what has to be.
@@ -41,21 +27,25 @@ pub fn write_each_time(
     room: &mut Room,
     changes: &mut Changes,
 ) -> Result<u64, Refusal> {
-    show_sheet(nums, values)?;
-    Ok(write_turns(nums, values, last, turns, room, changes))
+    let mut sheet = ShownSheet::show(nums, values)?;
+    Ok(sum_of_turns(turns, |tokens| {
+        let write = Write {
+            place: CellRef { row: 0, col: 0 },
+            formula: Some(tokens),
+        };
+        let _ = sheet.write(write, room, changes);
+        seen_at(sheet.values(), last)
+    }))
 }
 
-// After each write the whole sheet is shown anew. A loop of its own, and no closure that is handed to one: what `write_cell` asks
-// holds from turn to turn, and the closure would have to carry it.
+// After each write the whole sheet is shown anew.
 pub fn show_each_time(nums: &mut [u64], values: &mut [u64], last: usize, turns: u64) -> u64 {
-    let mut seen = 0u64;
-    for turn in 0..turns {
+    sum_of_turns(turns, |tokens| {
         if nums.len() < HEADER_LEN {
             return 0;
         }
-        let _ = Cell::write(&mut nums[HEADER_LEN..], &[0, turn % 2, 0, 0, 0]);
+        let _ = Cell::write(&mut nums[HEADER_LEN..], tokens);
         let _ = show_sheet(nums, values);
-        seen = seen.wrapping_add(values.get(last).copied().unwrap_or(0));
-    }
-    seen
+        seen_at(values, last)
+    })
 }

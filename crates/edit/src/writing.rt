@@ -14,7 +14,7 @@ use crate::room::Room;
 use crate::write::Write;
 use recalc::{LentSheet, Refusal, show_sheet};
 
-// A write that is not refused. What is lent stays apart: a struct that held it by `&mut` would have to say at each step that it is still the same.
+// A write that is not refused. The sheet and its row are lent apart: while it goes on, the row is not what the sheet shows.
 fn write_inside(
     nums: &mut [u64],
     values: &mut [u64],
@@ -40,7 +40,7 @@ fn write_inside(
 
 // Writes into a sheet that is not refused, of which `values` has what it shows. The cell is worked out, and so are the formulas that
 // looked at something that shows something else now; only what shows something else is written into `values`. Both are listed in
-// `changes`. A refusal changes nothing.
+// `changes`. A refusal changes nothing. For callers that know this of what they lend; a `ShownSheet` carries it along.
 pub fn write_cell(
     nums: &mut [u64],
     values: &mut [u64],
