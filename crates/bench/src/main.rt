@@ -14,12 +14,8 @@ use std::env;
 use std::time::Instant;
 
 fn turns_asked(rt: &HostRuntime) -> anyhow::Result<Option<u64>> {
-    let mut args = env::args(rt)?;
-    let _ = args.next();
-    match args.next() {
-        Some(word) => Ok(word.as_str().parse::<u64>().ok()),
-        None => Ok(None),
-    }
+    let word = env::args(rt)?.nth(1);
+    Ok(word.and_then(|word| word.as_str().parse().ok()))
 }
 
 fn compare(rt: &HostRuntime, name: &str, length: u64, turns: u64) -> anyhow::Result<()> {

@@ -72,6 +72,7 @@ pub fn check_sheet(nums: &[u64]) -> Result<Size, Refusal>
     if nums.len() < HEADER_LEN + CELL_LEN * count {
         return Err(Refusal::Short(nums.len()));
     }
+    // A match: what is found here is the refusal, so neither `?` nor `ok_or` fits.
     match first_malformed_cell(nums, count) {
         Some(index) => Err(Refusal::Malformed(index)),
         None => Ok(Size { rows, cols }),

@@ -21,10 +21,8 @@ use std::{env, io};
 
 // The view that the first argument names; without one, the values.
 fn view_asked(rt: &HostRuntime) -> anyhow::Result<Result<View, NoSuchView>> {
-    Ok(match env::args(rt)?.nth(1) {
-        Some(word) => word.as_str().parse(),
-        None => Ok(View::Values),
-    })
+    let word = env::args(rt)?.nth(1);
+    Ok(word.map_or(Ok(View::Values), |word| word.as_str().parse()))
 }
 
 fn main(rt: HostRuntime) -> anyhow::Result<()> {
