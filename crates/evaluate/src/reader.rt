@@ -21,11 +21,10 @@ pub struct Reader<'a, C, T> {
 fn number_in(place: CellRef, value: Option<Value>) -> Result<Option<u64>, Stop>
     ensures { result ≡ seen place value (λ n. n) }
 {
-    match value {
-        None => Err(Stop::Needs(place)),
-        Some(Value::Empty) => Ok(None),
-        Some(Value::Number(n)) => Ok(Some(n)),
-        Some(Value::Error(error)) => Err(Stop::Error(error)),
+    match value.ok_or(Stop::Needs(place))? {
+        Value::Empty => Ok(None),
+        Value::Number(n) => Ok(Some(n)),
+        Value::Error(error) => Err(Stop::Error(error)),
     }
 }
 

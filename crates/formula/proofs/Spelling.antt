@@ -57,7 +57,3 @@ whole_spelled ws f e = go (leb (length ws) formula_len) refl e
     go : (b : Bool) → leb (length ws) formula_len ≡ b → cond b (whole (reads ws)) None ≡ Some f → (length ws ≤ formula_len) × Spells ws f []
     go true l e = (leb-true (length ws) formula_len l, inner (reads ws) (chain ws) e)
     go false l e = absurd (grind arith)
-
--- the formula that a row is stands first in it
-pub spelled_first : (ws : List ℕ) (f : Formula) → spelled ws ≡ Some f → formula_at 0 (reads ws) ≡ Some f
-spelled_first ws f e = ap (formula_at 0) (reads_spelled (whole_spelled ws f e).1)

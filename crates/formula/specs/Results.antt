@@ -1,4 +1,4 @@
--- What a command answers, and what it leaves of a lent row. Assumes nothing: these are definitions.
+-- What a change to a lent row answers, and what it leaves. Assumes nothing: these are definitions.
 use Rattle.std.specs.Prelude.{ℕ, List, Ok, Err, Result}
 
 -- what is answered

@@ -12,6 +12,7 @@ use crate::moving::{Moves, rewrite};
 use crate::reading::is_formula;
 use crate::token::{CellRef, Range};
 
+// Three cases, and no Result of an Option: a malformed cell is one of the things that a cell can be.
 #[derive(Clone, Copy)]
 pub enum Cell<'a> {
     Blank,

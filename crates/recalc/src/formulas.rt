@@ -27,7 +27,7 @@ impl Progress {
         }
     }
 
-    // After a recalculation every cell is known.
+    // What the cell shows after a recalculation, when every cell is known.
     pub fn known_value(self) -> Value
         ensures { result ≡ value_known self }
     {

@@ -117,7 +117,7 @@ impl<'a> LentSheet<'a> {
     }
 }
 
-// What a formula's end says that its cell shows, or the place that is wanted.
+// What a formula's end says that its cell shows, or the place that is wanted. No From: both sides are Results.
 fn shown_as(end: Result<u64, Stop>) -> Result<Value, CellRef>
     ensures { result ≡ tried end }
 {
@@ -136,7 +136,7 @@ impl<'a> Formulas for LentSheet<'a> {
     fn attempt(&self, k: usize, table: &[Progress]) -> Result<Value, usize> {
         match self.try_cell(k, table) {
             Ok(value) => Ok(value),
-            // No map_err: that this number is small is known here, and not inside a closure.
+            // No map_err: that the place lies in the sheet is known here, and not inside a closure.
             Err(place) => Err(self.number(place)),
         }
     }

@@ -9,7 +9,9 @@ use crate::formulas::{Formulas, Progress};
 use arrayvec::ArrayVec;
 use evaluate::{CellError, Value};
 
-// Of at most N cells. The lists are parallel, and no list of cells, since an attempt is lent one whole table or the other.
+// Of at most N cells. The lists are parallel, and no list of cells: an attempt is lent one whole table or the other, and what was shown
+// before and which are dirty is read as lists by those who tell what changed. The formulas are lent to each step and no field, since a
+// recalculation outlives them: it is lent to write after write.
 #[derive(Drop)]
 pub struct Recalculation<const N: usize> {
     // What each cell showed before the change.
@@ -138,11 +140,12 @@ impl<const N: usize> Recalculation<N> {
         ensures all { flag self.now.dirty.items k ≡ true → (s : ℕ → Value) → Right s self.now.table.items → Answers ((F.language formulas.now).work s k) ((F.language formulas.now).looks s k) self.now.table.items result }
         ensures same { flag self.now.dirty.items k ≡ false → (s : ℕ → Value) → Right s self.now.kept.items → Answers ((F.language formulas.now).work s k) ((F.language formulas.now).looks s k) self.now.kept.items result }
     {
-        if self.dirty[k] {
-            formulas.attempt(k, self.table())
+        let known = if self.dirty[k] {
+            self.table()
         } else {
-            formulas.attempt(k, self.kept.as_slice())
-        }
+            self.kept.as_slice()
+        };
+        formulas.attempt(k, known)
     }
 
     // One turn at the cell k on top of the stack.

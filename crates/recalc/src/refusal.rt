@@ -25,7 +25,7 @@ pub enum Refusal {
 }
 
 impl Refusal {
-    // Its number in the list of refusals.
+    // Its number in the list of refusals. No From: what is printed of a refusal is two numbers, and which one would not be said.
     pub fn number(self) -> u64
         ensures { result ≡ refusal_number self }
     {

@@ -72,11 +72,10 @@ pub fn check_sheet(nums: &[u64]) -> Result<Size, Refusal>
     if nums.len() < HEADER_LEN + CELL_LEN * count {
         return Err(Refusal::Short(nums.len()));
     }
-    // A match: what is found here is the refusal, so neither `?` nor `ok_or` fits.
-    match first_malformed_cell(nums, count) {
-        Some(index) => Err(Refusal::Malformed(index)),
-        None => Ok(Size { rows, cols }),
+    if let Some(index) = first_malformed_cell(nums, count) {
+        return Err(Refusal::Malformed(index));
     }
+    Ok(Size { rows, cols })
 }
 
 // The same of a sheet that may come to have as many rows and columns as `most` says, in a memory that has to have room for that.
