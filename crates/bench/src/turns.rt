@@ -14,10 +14,6 @@ fn sum_of_turns<F: FnMut(&[u64]) -> u64>(turns: u64, mut turn: F) -> u64
     seen
 }
 
-fn seen_at(values: &[u64], index: usize) -> u64 {
-    values.get(index).copied().unwrap_or(0)
-}
-
 // Each write recalculates what has to be.
 pub fn write_each_time(
     nums: &mut [u64],
@@ -34,7 +30,7 @@ pub fn write_each_time(
             formula: Some(tokens),
         };
         let _ = sheet.write(write, room, changes);
-        seen_at(sheet.values(), last)
+        sheet.values().get(last).copied().unwrap_or(0)
     }))
 }
 
@@ -46,6 +42,6 @@ pub fn show_each_time(nums: &mut [u64], values: &mut [u64], last: usize, turns: 
         }
         let _ = Cell::write(&mut nums[HEADER_LEN..], tokens);
         let _ = show_sheet(nums, values);
-        seen_at(values, last)
+        values.get(last).copied().unwrap_or(0)
     })
 }

@@ -13,7 +13,7 @@ use Rattle.recalc.specs.Change.{shows, flag}
 use Rattle.recalc.specs.Showing.{table_shows}
 use Rattle.edit.specs.Changes.{differs}
 
--- the value of cell k in a row of values
+-- the value of cell k in a row of values: as evaluate's, as far as the row goes
 abbrev pub value_at : List ℕ → ℕ → Value
 value_at xs k = unwrap_or (value_in (slice_index xs (2 * k)) (slice_index xs (2 * k + 1))) Empty
 

@@ -11,10 +11,8 @@ use recalc::{LentSheet, Refusal};
 pub fn check_write(sheet: &LentSheet<'_>, write: Write<'_>) -> Result<(), Refusal>
     ensures { result ≡ answered (allowed write.entry (sheet_in sheet.now.nums.now)) }
 {
-    if let Some(tokens) = write.formula {
-        if !is_formula(tokens) {
-            return Err(Refusal::Malformed(0));
-        }
+    if write.formula.is_some_and(|tokens| !is_formula(tokens)) {
+        return Err(Refusal::Malformed(0));
     }
     let size = sheet.size();
     if write.place.row >= size.rows || write.place.col >= size.cols {

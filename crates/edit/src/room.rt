@@ -40,7 +40,7 @@ impl Room {
         ensures written { k < n → flag self.new.cells.dirty.items k ≡ true }
     {
         self.cells.clear();
-        // By number, by which both the value and the mark are told.
+        // By number: the value and the mark both go by it.
         for i in 0..n {
             self.cells.add(value_at(values, i), i == k);
         }
@@ -57,7 +57,6 @@ impl Room {
 
     // Brings the row of values up to date, and lists what changed and what was worked out again.
     pub(crate) fn tell(&self, sheet: &LentSheet<'_>, values: &mut [u64], changes: &mut Changes)
-        requires few { length self.now.cells.before.items ≤ max_cells }
         requires room { 2 * length self.now.cells.before.items ≤ length values.old }
         requires shown { values.old ≡ values_from (shows self.now.cells.before.items) 0 (length self.now.cells.before.items) ++ drop (2 * length self.now.cells.before.items) values.old }
         ensures values { values.new ≡ values_from (table_shows self.now.cells.table.items) 0 (length self.now.cells.before.items) ++ drop (2 * length self.now.cells.before.items) values.old }

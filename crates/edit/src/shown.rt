@@ -1,6 +1,5 @@
 // Writes into a sheet of which the row of values is known to be what it shows.
 ghost use Rattle.std.specs.Prelude.{◌≡◌, true, is_ok, IfOk};
-ghost use Rattle.std.specs.Result.{result_map_both};
 ghost use Rattle.recalc.specs.Layout.{checked};
 ghost use Rattle.recalc.specs.Sheets.{sheet_in};
 ghost use Rattle.recalc.specs.Showing.{answered, kept, shown_in, ShownIn};
@@ -18,7 +17,7 @@ impl<'a> ShownSheet<'a> {
     // Shows the sheet in the row; what the row holds after a refusal is told by `show_sheet`.
     pub fn show(nums: &'a mut [u64], values: &'a mut [u64]) -> Result<ShownSheet<'a>, Refusal>
         ensures same { IfOk result (λ s. (s.nums.ghost_name ≡ nums.entry.ghost_name) × (s.values.ghost_name ≡ values.entry.ghost_name)) }
-        ensures answer { result_map_both (λ _. tt) (λ e. e) result ≡ answered (shown_in nums.old values.old) }
+        ensures answer { answered result ≡ answered (shown_in nums.old values.old) }
         ensures memory { IfOk result (λ s. s.nums.now ≡ nums.old) }
         ensures row { IfOk result (λ s. s.values.now ≡ kept values.old (shown_in nums.old values.old)) }
     {
@@ -44,7 +43,7 @@ impl<'a> ShownSheet<'a> {
         self.values
     }
 
-    // As `write_cell`, of which it is no twin: what a struct that is gone has left in what was lent to it, no proof knows.
+    // As `write_cell`, which stays beside it for those who hold the two rows: what a `ShownSheet` that is gone has left in them no proof knows.
     pub fn write(
         &mut self,
         write: Write<'_>,

@@ -23,6 +23,7 @@ pub fn value_at(values: &[u64], k: usize) -> Value
     Value::read(values, k).unwrap_or(Value::Empty)
 }
 
+// A function of its own, so that the proof of the loop can name the test.
 fn is_changed(value: Value, before: Value) -> bool
     ensures { result ≡ differs value before }
 {
@@ -45,7 +46,7 @@ pub fn write_changes(
     ensures values { values.new ≡ values_from (table_shows table.now) 0 (length table.now) ++ drop (2 * length table.now) values.old }
     ensures changed { list.new.places.items ≡ places_from (cols_in sheet.now.nums.now) (table_differs table.now before.now) 0 (length table.now) }
 {
-    // No zip with before: its turns have no number in the proof, and the row and the list go by k.
+    // No zip with before: its turns are not numbered in a proof, and the row and the list go by number.
     for (k, progress) in table.iter().enumerate() {
         let value = progress.known_value();
         if is_changed(value, before[k]) {

@@ -14,7 +14,8 @@ use crate::room::Room;
 use crate::write::Write;
 use recalc::{LentSheet, Refusal, show_sheet};
 
-// A write that is not refused. The sheet and its row are lent apart: while it goes on, the row is not what the sheet shows.
+// A write that is not refused. The sheet and its row are lent apart: while it goes on, the row is not what the sheet shows. Room and lists too:
+// the caller reads the lists, and nobody the room.
 fn write_inside(
     nums: &mut [u64],
     values: &mut [u64],

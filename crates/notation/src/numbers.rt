@@ -6,6 +6,7 @@ ghost use Rattle.notation.specs.Errors.{Refuses};
 use crate::text_error::TextError;
 use std::alloc::Global;
 
+// Not is_ascii_whitespace, which takes a form feed too.
 fn is_white(byte: u8) -> bool
     ensures { result ≡ white byte }
 {
@@ -22,7 +23,7 @@ fn append_digit(number: u64, byte: u8) -> Option<u64>
     number.checked_mul(10)?.checked_add(u64::from(byte - b'0'))
 }
 
-// The number that a word of digits stands for.
+// The number that a word of digits stands for. Not u64::from_str, which takes a sign too.
 fn number(word: &[u8]) -> Option<u64>
     ensures { result ≡ number word.now }
 {

@@ -8,6 +8,7 @@ use formula::{Aggregate, CellRef, Expression, Node, Operator, Range};
 use std::fmt;
 use std::fmt::Display;
 
+// No Display: the enum is of `formula`, and no other crate can give it one.
 fn sign(operator: Operator) -> &'static str
     ensures { result.now ≡ sign operator }
 {
@@ -19,6 +20,7 @@ fn sign(operator: Operator) -> &'static str
     }
 }
 
+// As `sign`.
 fn name(aggregate: Aggregate) -> &'static str
     ensures { result.now ≡ name aggregate }
 {

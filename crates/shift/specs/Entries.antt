@@ -1,4 +1,4 @@
--- The entries of a grid, in reading order, after a shift: one definition for the cells of a sheet and for what they show. Assumes nothing: these are definitions.
+-- The entries of a grid, in reading order, after a shift: one definition for the cells of a sheet and for what they show. Assumes nothing: these are definitions, and two proofs that a ghost field needs.
 use Rattle.std.specs.Prelude.{ℕ, ◌+◌, ◌-◌, ◌*◌, ◌<◌, ◌≤◌, max, List, ◌++◌, drop, replicate, Some, None, Option}
 use Rattle.std.specs.Option.{option_map}
 use Rattle.std.specs.Coded.{×_prop, le_prop}

@@ -19,7 +19,7 @@ fn shift_cell(cell: &mut [u64], shift: Shift)
 pub(crate) fn shift_cells(cells: &mut [u64], shift: Shift)
     ensures { cells.new ≡ shifted_cells shift (λ k. entry cell_len k cells.old) (length cells.old / cell_len) (drop (cell_len * (length cells.old / cell_len)) cells.old) }
 {
-    // By number: of what a slice ends as behind `chunks_exact_mut`, a proof knows the length alone.
+    // By number: after `chunks_exact_mut` a proof knows the length of a slice and none of its numbers.
     for k in 0..cells.len() / CELL_LEN {
         let from = CELL_LEN * k;
         shift_cell(&mut cells[from..from + CELL_LEN], shift);

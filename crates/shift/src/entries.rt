@@ -22,7 +22,8 @@ fn copy_entry<const LEN: usize>(entries: &mut [u64], from: usize, to: usize)
     entries.copy_within(start..start + LEN, LEN * to);
 }
 
-// Entry `to` of those from the line on becomes what comes there, an entry or zeros.
+// Entry `to` of those from the line on becomes what comes there, an entry or zeros. The part and the reshape stay apart, here and below:
+// what a struct that is gone has left in a part that was lent to it no proof knows.
 fn put_entry<const LEN: usize>(part: &mut [u64], reshape: Reshape, to: usize)
     requires left { to < left_behind reshape.shift reshape.size }
     requires room { LEN * most_behind reshape.shift reshape.size ≤ length part.old }
@@ -47,7 +48,7 @@ fn spread<const LEN: usize>(part: &mut [u64], reshape: Reshape)
 }
 
 // Moves the entries behind a deleted line, the first one first.
-// A second loop, and not one over an order that is passed: of that order it would be asked that no entry is overwritten before it is moved.
+// Two loops: an order that is handed in would need a contract that no entry is overwritten before it has moved, which is longer than the loop.
 fn gather<const LEN: usize>(part: &mut [u64], reshape: Reshape)
     requires change { reshape.shift.change ≡ Delete }
     requires room { LEN * most_behind reshape.shift reshape.size ≤ length part.old }
@@ -58,7 +59,7 @@ fn gather<const LEN: usize>(part: &mut [u64], reshape: Reshape)
     }
 }
 
-// Moves the entries from the line of a shift on to where it puts them.
+// Moves the entries from the line of a shift on to where it puts them. A match: the change is data of the shift, and of a closure the caller would have to say the same.
 fn move_behind<const LEN: usize>(part: &mut [u64], reshape: Reshape)
     requires room { LEN * most_behind reshape.shift reshape.size ≤ length part.old }
     ensures { part.new ≡ placed LEN (origin_behind reshape.shift reshape.size) (left_behind reshape.shift reshape.size) part.old }

@@ -41,6 +41,7 @@ impl Display for Listing<'_> {
     ghost output = { λ l. Some (listing l.sheet.nums.now) };
 
     fn fmt<W: fmt::Write>(&self, f: &mut fmt::Formatter<W>) -> fmt::Result {
+        // By number: the place and the cell both go by it, and a sheet has no iterator.
         for k in 0..self.sheet.count() {
             let place = self.sheet.place(k);
             let cell = self.sheet.cell(k);

@@ -36,7 +36,7 @@ pub struct Padded {
     pub entry: Entry,
 }
 
-// Not {:>width$}: the text of a value under a width is stated by no Display that it goes through.
+// Not {:>width$}: no Display here says what it writes under a width.
 impl Display for Padded {
     ghost output = { λ p. Some (padded p.width (entry_text p.entry)) };
 

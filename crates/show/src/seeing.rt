@@ -21,20 +21,19 @@ fn values_of(heap: Global, sheet: &LentSheet<'_>) -> Result<Vec<u64>, AllocError
     Ok(row)
 }
 
-// The text of a view; the formulas need no values.
+// The text of a view; only the values are worked out that are seen.
 pub fn seen(heap: Global, view: View, sheet: LentSheet<'_>) -> Result<String, AllocError>
     ensures { IfOk result (λ s. string_bytes s ≡ view_text view sheet.entry.nums.now (size_in sheet.entry.nums.now)) }
 {
-    if let View::Formulas = view {
-        return Listing { sheet }.to_string(heap);
-    }
-    let row = values_of(heap, &sheet)?;
-    let values = Values {
-        numbers: row.as_slice(),
-        size: sheet.size(),
-    };
     match view {
-        View::Table => Table::new(values).to_string(heap),
-        _ => values.to_string(heap),
+        View::Values => {
+            let row = values_of(heap, &sheet)?;
+            Values::of(row.as_slice(), &sheet).to_string(heap)
+        }
+        View::Formulas => Listing { sheet }.to_string(heap),
+        View::Table => {
+            let row = values_of(heap, &sheet)?;
+            Table::new(Values::of(row.as_slice(), &sheet)).to_string(heap)
+        }
     }
 }

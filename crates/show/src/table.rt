@@ -7,6 +7,7 @@ use crate::entry::Entry;
 use crate::grid::{Grid, Lines};
 use crate::padded::{Padded, width_of};
 use crate::values::Values;
+use arrayvec::ArrayVec;
 use evaluate::MAX_COLUMNS;
 use std::fmt;
 use std::fmt::Display;
@@ -53,16 +54,13 @@ impl Table<'_> {
         Ok(width)
     }
 
-    fn column_widths(&self) -> Result<[usize; MAX_TABLE_COLUMNS], fmt::Error>
-        ensures { IfOk result (λ ws. (col : ℕ) → col ≤ self.now.values.size.cols → slice_index ws col ≡ column_width self.now.values.numbers.now self.now.values.size col) }
+    // A Display has no allocator, so the list is one that never allocates.
+    fn column_widths(&self) -> Result<ArrayVec<usize, MAX_TABLE_COLUMNS>, fmt::Error>
+        ensures { IfOk result (λ ws. (col : ℕ) → col ≤ self.now.values.size.cols → slice_index ws.items col ≡ column_width self.now.values.numbers.now self.now.values.size col) }
     {
-        // An array for the largest sheet: a Display has no allocator to make a list with.
-        let mut widths = [0; MAX_TABLE_COLUMNS];
-        for (col, width) in widths[..=self.values.size.cols as usize]
-            .iter_mut()
-            .enumerate()
-        {
-            *width = self.column_width(col as u64)?;
+        let mut widths = ArrayVec::new();
+        for col in 0..self.values.size.cols + 1 {
+            widths.push(self.column_width(col)?);
         }
         Ok(widths)
     }
@@ -72,13 +70,13 @@ impl Table<'_> {
 #[derive(Drop)]
 struct Aligned<'a> {
     table: Table<'a>,
-    widths: [usize; MAX_TABLE_COLUMNS],
+    widths: ArrayVec<usize, MAX_TABLE_COLUMNS>,
 }
 
 impl Grid for Aligned<'_> {
     type Entry = Padded;
 
-    ghost text = { λ a line col. padded (slice_index a.widths col) (entry_text (table_entry a.table.values.numbers.now a.table.values.size.cols line col)) };
+    ghost text = { λ a line col. padded (slice_index a.widths.items col) (entry_text (table_entry a.table.values.numbers.now a.table.values.size.cols line col)) };
 
     fn entry(&self, row: u64, col: u64) -> Padded {
         Padded {

@@ -1,13 +1,14 @@
 // The values of a sheet, in a row: two numbers a cell, in reading order.
 ghost use Rattle.std.specs.Prelude.{◌≡◌, ◌+◌, ◌*◌, Some};
 ghost use Rattle.evaluate.specs.Rows.{value_at};
+ghost use Rattle.recalc.specs.Layout.{size_in};
 ghost use Rattle.show.specs.Entries.{cell_entry, entry_text};
 ghost use Rattle.show.specs.Values.{values_text};
 
 use crate::entry::Entry;
 use crate::grid::{Grid, Lines};
 use evaluate::Value;
-use recalc::Size;
+use recalc::{LentSheet, Size};
 use std::fmt;
 use std::fmt::Display;
 
@@ -17,7 +18,18 @@ pub struct Values<'a> {
     pub size: Size,
 }
 
-impl Values<'_> {
+impl<'a> Values<'a> {
+    // The row of a sheet.
+    pub fn of(numbers: &'a [u64], sheet: &LentSheet<'_>) -> Values<'a>
+        ensures numbers { result.numbers.now ≡ numbers.now }
+        ensures size { result.size ≡ size_in sheet.now.nums.now }
+    {
+        Values {
+            numbers,
+            size: sheet.size(),
+        }
+    }
+
     // No row of values reaches as far as an index that does not fit.
     fn value(&self, row: u64, col: u64) -> Option<Value>
         ensures { result ≡ value_at self.now.numbers.now (row * self.now.size.cols + col) }

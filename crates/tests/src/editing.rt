@@ -1,6 +1,6 @@
 // Writes: what is told, and what is worked out again.
 use crate::places::listed;
-use edit::{Changes, Room, Write, write_shown};
+use edit::{Changes, Room, ShownSheet, Write, write_shown};
 use formula::CellRef;
 use samples::{add_cell, new_sheet};
 use std::alloc::{AllocError, Global};
@@ -154,4 +154,30 @@ fn writes_refused(rt: HostRuntime) -> Result<(), Fail> {
     desk.refuses(&rt, 2, &[14, 0, 0, 0, 0], 4)?;
     desk.refuses(&rt, u64::MAX, &FIVE, 6)?;
     desk.shows(&rt, &[1, 5, 1, 6, 7])
+}
+
+// What a sheet shows is known from write to write.
+#[test]
+fn a_shown_sheet_is_written(rt: HostRuntime) -> Result<(), Fail> {
+    let mut desk = Desk::of(rt.alloc(), &[&FIVE, &next_to(0)])?;
+    let Ok(mut sheet) = ShownSheet::show(desk.sheet.as_mut_slice(), &mut desk.values) else {
+        return Err(Fail::new("refused"));
+    };
+    let seven = write_of(0, Some(&[0, 7, 0, 0, 0]));
+    assert!(rt;
+        sheet
+            .write(seven, &mut desk.room, &mut desk.changes)
+            .is_ok()
+    );
+    let outside = write_of(2, None);
+    assert!(rt;
+        sheet
+            .write(outside, &mut desk.room, &mut desk.changes)
+            .is_err()
+    );
+    let Some(values) = sheet.values().get(..5) else {
+        return Err(Fail::new("more than there is"));
+    };
+    assert_eq!(rt; values, [1, 7, 1, 8, 7].as_slice());
+    Ok(())
 }

@@ -15,29 +15,21 @@ const MEMORY: usize = 29_283;
 // What stands behind a sheet.
 const BEHIND: u64 = 7;
 
-const INSERT_ROW: Shift = Shift {
-    axis: Axis::Row,
-    change: Change::Insert,
-    line: 0,
-};
+fn insert(axis: Axis, line: u64) -> Shift {
+    Shift {
+        axis,
+        change: Change::Insert,
+        line,
+    }
+}
 
-const INSERT_COLUMN: Shift = Shift {
-    axis: Axis::Column,
-    change: Change::Insert,
-    line: 0,
-};
-
-const DELETE_ROW: Shift = Shift {
-    axis: Axis::Row,
-    change: Change::Delete,
-    line: 0,
-};
-
-const DELETE_COLUMN: Shift = Shift {
-    axis: Axis::Column,
-    change: Change::Delete,
-    line: 0,
-};
+fn delete(axis: Axis, line: u64) -> Shift {
+    Shift {
+        axis,
+        change: Change::Delete,
+        line,
+    }
+}
 
 // A reference, or a total, along one axis; across it lies outside the sheet.
 fn reference(axis: Axis, line: u64) -> [u64; 5] {
@@ -97,11 +89,7 @@ fn becomes(
 }
 
 fn inserting(rt: &(impl Abort + AllocGlobal), axis: Axis) -> Result<(), Fail> {
-    let at = Shift {
-        axis,
-        change: Change::Insert,
-        line: 2,
-    };
+    let at = insert(axis, 2);
     becomes(rt, at, &reference(axis, 1), &reference(axis, 1))?;
     becomes(rt, at, &reference(axis, 2), &reference(axis, 3))?;
     becomes(rt, at, &reference(axis, 77), &reference(axis, 78))?;
@@ -124,11 +112,7 @@ fn inserting(rt: &(impl Abort + AllocGlobal), axis: Axis) -> Result<(), Fail> {
 }
 
 fn deleting(rt: &(impl Abort + AllocGlobal), axis: Axis) -> Result<(), Fail> {
-    let at = Shift {
-        axis,
-        change: Change::Delete,
-        line: 2,
-    };
+    let at = delete(axis, 2);
     becomes(rt, at, &reference(axis, 1), &reference(axis, 1))?;
     // Outside the sheet too.
     becomes(rt, at, &reference(axis, 2), &[2, 0, 0, 0, 0])?;
@@ -262,14 +246,38 @@ fn at_edges(
 #[test]
 fn lines_inserted(rt: HostRuntime) -> Result<(), Fail> {
     let size = Size { rows: 39, cols: 11 };
-    at_edges(&rt, size, INSERT_ROW, 39, Size { rows: 40, cols: 11 })?;
-    at_edges(&rt, size, INSERT_COLUMN, 11, Size { rows: 39, cols: 12 })
+    at_edges(
+        &rt,
+        size,
+        insert(Axis::Row, 0),
+        39,
+        Size { rows: 40, cols: 11 },
+    )?;
+    at_edges(
+        &rt,
+        size,
+        insert(Axis::Column, 0),
+        11,
+        Size { rows: 39, cols: 12 },
+    )
 }
 
 #[test]
 fn lines_deleted_from_the_largest_sheet(rt: HostRuntime) -> Result<(), Fail> {
-    at_edges(&rt, LARGEST, DELETE_ROW, 39, Size { rows: 39, cols: 12 })?;
-    at_edges(&rt, LARGEST, DELETE_COLUMN, 11, Size { rows: 40, cols: 11 })
+    at_edges(
+        &rt,
+        LARGEST,
+        delete(Axis::Row, 0),
+        39,
+        Size { rows: 39, cols: 12 },
+    )?;
+    at_edges(
+        &rt,
+        LARGEST,
+        delete(Axis::Column, 0),
+        11,
+        Size { rows: 40, cols: 11 },
+    )
 }
 
 // The number of the refusal, and nothing has changed.
@@ -294,57 +302,33 @@ fn refuses(
 fn refusals(rt: HostRuntime) -> Result<(), Fail> {
     let small = Size { rows: 2, cols: 1 };
     // As many rows as there may be.
-    refuses(&rt, LARGEST, INSERT_ROW, LARGEST, 8)?;
-    refuses(&rt, LARGEST, INSERT_COLUMN, LARGEST, 8)?;
+    refuses(&rt, LARGEST, insert(Axis::Row, 0), LARGEST, 8)?;
+    refuses(&rt, LARGEST, insert(Axis::Column, 0), LARGEST, 8)?;
     // 7 comes before 8.
-    refuses(
-        &rt,
-        LARGEST,
-        Shift {
-            line: 41,
-            ..INSERT_ROW
-        },
-        LARGEST,
-        7,
-    )?;
-    refuses(
-        &rt,
-        small,
-        Shift {
-            line: 2,
-            ..DELETE_ROW
-        },
-        LARGEST,
-        7,
-    )?;
-    refuses(
-        &rt,
-        small,
-        Shift {
-            line: u64::MAX,
-            ..INSERT_COLUMN
-        },
-        LARGEST,
-        7,
-    )?;
+    refuses(&rt, LARGEST, insert(Axis::Row, 41), LARGEST, 7)?;
+    refuses(&rt, small, delete(Axis::Row, 2), LARGEST, 7)?;
+    refuses(&rt, small, insert(Axis::Column, u64::MAX), LARGEST, 7)?;
     // The only column.
-    refuses(&rt, small, DELETE_COLUMN, LARGEST, 9)?;
+    refuses(&rt, small, delete(Axis::Column, 0), LARGEST, 9)?;
     // 7 comes before 9.
+    refuses(&rt, small, delete(Axis::Column, 1), LARGEST, 7)?;
+    // The opening's bound.
+    refuses(&rt, small, insert(Axis::Row, 0), small, 8)?;
+    // More rows than there may be.
     refuses(
         &rt,
         small,
-        Shift {
-            line: 1,
-            ..DELETE_COLUMN
-        },
-        LARGEST,
-        7,
+        insert(Axis::Row, 0),
+        Size { rows: 1, cols: 1 },
+        1,
     )?;
-    // The opening's bound.
-    refuses(&rt, small, INSERT_ROW, small, 8)?;
-    // More rows than there may be.
-    refuses(&rt, small, INSERT_ROW, Size { rows: 1, cols: 1 }, 1)?;
-    refuses(&rt, small, INSERT_ROW, Size { rows: 41, cols: 12 }, 1)
+    refuses(
+        &rt,
+        small,
+        insert(Axis::Row, 0),
+        Size { rows: 41, cols: 12 },
+        1,
+    )
 }
 
 // Two lines of prices and their total.
@@ -367,9 +351,11 @@ fn values_move_with_their_cells(rt: HostRuntime) -> Result<(), Fail> {
     let mut sheet = stair(rt.alloc())?;
     let mut moved = [BEHIND; 20];
     assert!(rt; show_sheet(sheet.as_slice(), &mut moved).is_ok());
+    // Written out, since its change has to be known.
     let at = Shift {
+        axis: Axis::Row,
+        change: Change::Insert,
         line: 1,
-        ..INSERT_ROW
     };
     insert_values(
         &mut moved,

@@ -7,6 +7,7 @@ use std::alloc::{AllocError, Global};
 use std::process::Abort;
 use std::test::*;
 
+// By hand: the end of an attempt has no text of its own.
 fn told(heap: Global, outcome: Result<u64, Stop>) -> Result<String, AllocError> {
     match outcome {
         Ok(n) => format!(in heap; "{n}"),

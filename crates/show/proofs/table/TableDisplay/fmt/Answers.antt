@@ -10,5 +10,5 @@ returns-clause-writes g c plain ok =
     let xs = c.args.self.now.values.numbers.now in
     let size = c.args.self.now.values.size in
     let widths = c.in_ok-column_widths.field-0 in
-    let same = widths_alike xs size.cols (λ col. get_or widths col 0) (column_width xs size) (size.rows + 1) (size.cols + 1) (λ col l. c.in_ok-column_widths.ensures col (omega arith)) in
+    let same = widths_alike xs size.cols (λ col. get_or widths.items col 0) (column_width xs size) (size.rows + 1) (size.cols + 1) (λ col l. c.in_ok-column_widths.ensures col (omega arith)) in
     has_written_of_eq _ _ _ _ _ same (c.fmt.ensures.writes plain ok)
