@@ -1,5 +1,5 @@
 -- A sheet in lent memory after a shift, and what is answered. Assumes nothing: these are definitions.
-use Rattle.std.specs.Prelude.{◌≡◌, ℕ, ◌+◌, ◌-◌, ◌*◌, min, max, List, ◌∷◌, ◌++◌, take, drop, replicate, Ok, Err, Result, slice_index}
+use Rattle.std.specs.Prelude.{◌≡◌, ℕ, ◌+◌, ◌-◌, ◌*◌, min, max, List, ◌∷◌, ◌++◌, take, drop, replicate, Ok, Result, slice_index}
 use Rattle.formula.specs.Layout.{token_len, max_tokens, cell_len}
 use Rattle.formula.specs.Moving.{moved_row}
 use Rattle.recalc.specs.declared.size.Size.{Size}

@@ -1,10 +1,10 @@
-use Rattle.std.proofs.Common.{◌≡◌, true, ℕ, ◌*◌, ◌<◌, List, ◌++◌, length, drop, is_ok, sym, ap, ◌∙◌, subst, arith}
+use Rattle.std.proofs.Common.{◌≡◌, ℕ, ◌*◌, ◌<◌, List, ◌++◌, length, drop, is_ok, sym, ap, ◌∙◌, subst, arith}
 use Rattle.evaluate.specs.declared.value.Value.{Value}
 use Rattle.recalc.specs.Layout.{cols_in}
-use Rattle.recalc.specs.Numbered.{count, number_of, sheet_language}
+use Rattle.recalc.specs.Numbered.{count, sheet_language}
 use Rattle.recalc.specs.Change.{shows, change, Updated}
 use Rattle.recalc.specs.Showing.{values_from, table_shows}
-use Rattle.recalc.specs.Sheets.{inside, sheet_in}
+use Rattle.recalc.specs.Sheets.{sheet_in}
 use Rattle.edit.specs.Writes.{allowed}
 use Rattle.edit.specs.Places.{places_from}
 use Rattle.edit.specs.Values.{value_at, table_differs, formula_marked}
@@ -13,10 +13,8 @@ use Rattle.edit.specs.States.{state}
 use Rattle.edit.proofs.Inside.{allowed_is, place_inside, ok_is, values_room, number_small, cell_room, still_ok, count_now, values_read, wrote}
 use Rattle.edit.proofs.writing.write_inside.Goals as goal
 
-pub number-k-requires : goal.number-k-requires
-number-k-requires c =
-    subst (λ ys. inside (sheet_in ys) c.args.write.place.row c.args.write.place.col ≡ true) (sym c.of-before.ensures)
-    (place_inside c.args.write (sheet_in c.args.nums.now) c.requires.allowed)
+pub target-n-requires-clause-inside : goal.target-n-requires-clause-inside
+target-n-requires-clause-inside c = place_inside c.args.write (sheet_in c.args.nums.now) c.requires.allowed
 
 pub note_before-requires-clause-room : goal.note_before-requires-clause-room
 note_before-requires-clause-room c =
@@ -24,9 +22,9 @@ note_before-requires-clause-room c =
     let xs = c.args.nums.now in
     let vs = c.args.values.now in
     let ok = c.requires.sheet in
-    let k = c.number-k.result in
-    let at : k ≡ number_of (sheet_in xs) w.place = c.number-k.ensures ∙ ap (λ ys. number_of (sheet_in ys) w.place) c.of-before.ensures in
-    let n : c.count-n.result ≡ count (sheet_in xs) = c.count-n.ensures.is ∙ ap (λ ys. count (sheet_in ys)) c.of-before.ensures in
+    let k = c.target-n.result.1 in
+    let at = c.target-n.ensures.number in
+    let n = c.target-n.ensures.count in
     omega (arith, values_room w xs vs k ok at c.requires.shown, n)
 
 pub put_cell-requires : goal.put_cell-requires
@@ -35,8 +33,8 @@ put_cell-requires c =
     let xs = c.args.nums.now in
     let vs = c.args.values.now in
     let ok = c.requires.sheet in
-    let k = c.number-k.result in
-    let at : k ≡ number_of (sheet_in xs) w.place = c.number-k.ensures ∙ ap (λ ys. number_of (sheet_in ys) w.place) c.of-before.ensures in
+    let k = c.target-n.result.1 in
+    let at = c.target-n.ensures.number in
     cell_room w xs vs k ok at c.requires.allowed
 
 pub of-after-requires : goal.of-after-requires
@@ -45,8 +43,8 @@ of-after-requires c =
     let xs = c.args.nums.now in
     let vs = c.args.values.now in
     let ok = c.requires.sheet in
-    let k = c.number-k.result in
-    let at : k ≡ number_of (sheet_in xs) w.place = c.number-k.ensures ∙ ap (λ ys. number_of (sheet_in ys) w.place) c.of-before.ensures in
+    let k = c.target-n.result.1 in
+    let at = c.target-n.ensures.number in
     let v = ok_is (allowed w (sheet_in xs)) c.requires.allowed in
     let a = allowed_is w (sheet_in xs) v.0 v.1 in
     still_ok w xs vs k ok at v.0 a c.put_cell.new.nums c.put_cell.ensures
@@ -57,9 +55,9 @@ recalculate-requires c =
     let xs = c.args.nums.now in
     let vs = c.args.values.now in
     let ok = c.requires.sheet in
-    let k = c.number-k.result in
-    let at : k ≡ number_of (sheet_in xs) w.place = c.number-k.ensures ∙ ap (λ ys. number_of (sheet_in ys) w.place) c.of-before.ensures in
-    let n : c.count-n.result ≡ count (sheet_in xs) = c.count-n.ensures.is ∙ ap (λ ys. count (sheet_in ys)) c.of-before.ensures in
+    let k = c.target-n.result.1 in
+    let at = c.target-n.ensures.number in
+    let n = c.target-n.ensures.count in
     let v = ok_is (allowed w (sheet_in xs)) c.requires.allowed in
     let a = allowed_is w (sheet_in xs) v.0 v.1 in
     c.note_before.ensures.count ∙ n ∙ count_now w xs vs k ok at v.0 a c.put_cell.new.nums c.put_cell.ensures ∙ ap (λ ys. count (sheet_in ys)) (sym c.of-after.ensures)
@@ -70,9 +68,9 @@ tell-requires-clause-room c =
     let xs = c.args.nums.now in
     let vs = c.args.values.now in
     let ok = c.requires.sheet in
-    let k = c.number-k.result in
-    let at : k ≡ number_of (sheet_in xs) w.place = c.number-k.ensures ∙ ap (λ ys. number_of (sheet_in ys) w.place) c.of-before.ensures in
-    let n : c.count-n.result ≡ count (sheet_in xs) = c.count-n.ensures.is ∙ ap (λ ys. count (sheet_in ys)) c.of-before.ensures in
+    let k = c.target-n.result.1 in
+    let at = c.target-n.ensures.number in
+    let n = c.target-n.ensures.count in
     omega (arith, values_room w xs vs k ok at c.requires.shown, ap length c.recalculate.ensures.before, c.note_before.ensures.count, n)
 
 pub tell-requires-clause-shown : goal.tell-requires-clause-shown
@@ -81,9 +79,9 @@ tell-requires-clause-shown c =
     let xs = c.args.nums.now in
     let vs = c.args.values.now in
     let ok = c.requires.sheet in
-    let k = c.number-k.result in
-    let at : k ≡ number_of (sheet_in xs) w.place = c.number-k.ensures ∙ ap (λ ys. number_of (sheet_in ys) w.place) c.of-before.ensures in
-    let n : c.count-n.result ≡ count (sheet_in xs) = c.count-n.ensures.is ∙ ap (λ ys. count (sheet_in ys)) c.of-before.ensures in
+    let k = c.target-n.result.1 in
+    let at = c.target-n.ensures.number in
+    let n = c.target-n.ensures.count in
     let v = ok_is (allowed w (sheet_in xs)) c.requires.allowed in
     let a = allowed_is w (sheet_in xs) v.0 v.1 in
     let bs = c.recalculate.new.self.cells.before.items in
@@ -99,9 +97,9 @@ returns c =
     let xs = c.args.nums.now in
     let vs = c.args.values.now in
     let ok = c.requires.sheet in
-    let k = c.number-k.result in
-    let at : k ≡ number_of (sheet_in xs) w.place = c.number-k.ensures ∙ ap (λ ys. number_of (sheet_in ys) w.place) c.of-before.ensures in
-    let n : c.count-n.result ≡ count (sheet_in xs) = c.count-n.ensures.is ∙ ap (λ ys. count (sheet_in ys)) c.of-before.ensures in
+    let k = c.target-n.result.1 in
+    let at = c.target-n.ensures.number in
+    let n = c.target-n.ensures.count in
     let bs = c.note_before.new.self.cells.before.items in
     let ms = c.note_before.new.self.cells.dirty.items in
     let t = c.recalculate.new.self.cells.table.items in
