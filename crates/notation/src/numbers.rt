@@ -27,6 +27,7 @@ fn append_digit(number: u64, byte: u8) -> Option<u64>
 fn number(word: &[u8]) -> Option<u64>
     ensures { result ≡ number word.now }
 {
+    // Tried try_fold: that what it gives is what the digits come to, one after the other, stayed open.
     let mut number = 0;
     for byte in word {
         number = append_digit(number, *byte)?;

@@ -46,7 +46,7 @@ impl Table<'_> {
     fn column_width(&self, col: u64) -> Result<usize, fmt::Error>
         ensures { IfOk result (λ w. w ≡ column_width self.now.values.numbers.now self.now.values.size col) }
     {
-        // Not a fold with max: a for passes on the error of an entry that cannot be measured.
+        // Tried try_fold: that what it gives is the widest of the lines stayed open.
         let mut width: usize = 0;
         for line in 0..self.values.size.rows + 1 {
             width = width.max(width_of(self.entry(line, col))?);
