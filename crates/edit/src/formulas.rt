@@ -17,7 +17,7 @@ fn is_recalculated(sheet: &LentSheet<'_>, dirty: bool, k: usize) -> bool
     dirty && matches!(sheet.cell(k), Cell::Formula(_))
 }
 
-// Lists the places that hold a formula and are marked.
+// Lists the places that hold a formula and are marked. Marks alone, and no recalculation: that they are few is all that is asked of the rest.
 pub fn list_recalculated(sheet: &LentSheet<'_>, dirty: &[bool], list: &mut PlaceList)
     requires few { length dirty.now ≤ max_cells }
     requires empty { list.old.places.items ≡ [] }

@@ -30,7 +30,8 @@ fn is_changed(value: Value, before: Value) -> bool
     value != before
 }
 
-// Overwrites the values of the cells that show something else than before, and lists their places.
+// Overwrites the values of the cells that show something else than before, and lists their places. As in `list_recalculated`, the two
+// lists alone are lent.
 pub fn write_changes(
     sheet: &LentSheet<'_>,
     table: &[Progress],

@@ -22,6 +22,7 @@ fn gap(between: &str, col: u64) -> &str
     if col == 0 { "" } else { between }
 }
 
+// Fields of its own: tried a `&Lines` in place of three, and the loop of `Lines` got no generated proof.
 #[derive(Clone, Copy)]
 struct Row<'a, G> {
     grid: &'a G,
