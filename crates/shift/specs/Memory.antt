@@ -50,3 +50,7 @@ pub record Shifts (d : Shift) (most : Size) (xs : List ℕ) (r : Result (Unit {0
   -- the sheet in the memory is the shifted one, and it fits as the other did
   pub sheet : r ≡ Ok tt → Same (sheet_in ys) (shifted d (sheet_in xs))
   pub fits : r ≡ Ok tt → fitting most ys ≡ Ok (size_after d (size_in xs))
+
+-- no second answer and no second memory fits
+abbrev pub OneMemory : Type 0
+OneMemory = (d : Shift) (most : Size) (xs : List ℕ) (r r₁ : Result (Unit {0}) Refusal) (ys ys₁ : List ℕ) → Shifts d most xs r ys → Shifts d most xs r₁ ys₁ → (r ≡ r₁) × (ys ≡ ys₁)

@@ -1,5 +1,6 @@
 // What is promised of a shift; each function stands for theorems.
 ghost use Rattle.shift.specs.Laws.{InsertionKeeps, DeletionBlanks, EitherOrder, RangeInserted, RangeDeleted, BoundIsNeeded};
+ghost use Rattle.shift.specs.Memory.{OneMemory};
 ghost use Rattle.shift.specs.Stair.{StairShifts};
 
 // An insertion changes nothing that is shown, on every sheet of fewer than 2^64 - 1 lines; on a larger one it may.
@@ -27,4 +28,9 @@ pub fn ranges_keep_their_lines()
 // A stair with a row inserted, with a row deleted, and with a reference lost.
 pub fn stair_shifts()
     ensures { StairShifts }
+{}
+
+// No second answer, and no second memory, fits what `shift_sheet` promises.
+pub fn one_memory()
+    ensures { OneMemory }
 {}

@@ -13,8 +13,8 @@ mod shift;
 mod values;
 
 pub use laws::{
-    deletion_blanks_a_line, either_order, insertion_keeps_values, ranges_keep_their_lines,
-    stair_shifts,
+    deletion_blanks_a_line, either_order, insertion_keeps_values, one_memory,
+    ranges_keep_their_lines, stair_shifts,
 };
 pub use memory::shift_memory;
 pub use reshape::Reshape;
