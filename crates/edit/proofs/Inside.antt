@@ -1,17 +1,20 @@
 -- A write that is not refused: its numbers, and what is known after each step of it. Assumes nothing.
-use Rattle.std.proofs.Common.{◌≡◌, ℕ, ◌+◌, ◌*◌, ◌<◌, ◌≤◌, Bool, true, false, cond, ◌&&◌, List, ◌++◌, length, drop, is_some, is_ok, Some, None, Ok, Err, Option, Result, sym, refl, ap, ◌∙◌, subst, arith, length-append}
+use Rattle.std.proofs.Common.{◌≡◌, ℕ, ◌+◌, ◌*◌, ◌<◌, ◌≤◌, Bool, true, false, cond, ◌&&◌, eqb, List, ◌++◌, length, drop, is_some, is_ok, Some, None, Ok, Err, Option, Result, sym, refl, ap, ◌∙◌, subst, arith, length-append}
+use Rattle.std.proofs.lemmas.Bool.{eqb-true, eq-eqb}
 use Rattle.formula.specs.Layout.{cell_len}
 use Rattle.formula.specs.Formula.{Formula}
 use Rattle.formula.specs.Tokens.{the_ref}
 use Rattle.formula.specs.declared.token.CellRef.{CellRef}
-use Rattle.evaluate.specs.declared.value.Value.{Value}
 use Rattle.evaluate.specs.Limits.{max_cells}
 use Rattle.recalc.specs.declared.refusal.Refusal.TheVariants.{Outside}
 use Rattle.recalc.specs.declared.formulas.Progress.{Progress}
 use Rattle.recalc.specs.Layout.{cols_in, sheet_len, size_in, checked}
 use Rattle.recalc.specs.Sheets.{Sheet, inside, held, Same, sheet_in}
 use Rattle.recalc.specs.Numbered.{count, nth_cell, sheet_language}
-use Rattle.recalc.specs.Change.{shows, flag, change, Updated}
+use Rattle.recalc.specs.declared.mark.Mark.{Mark}
+use Rattle.recalc.specs.Marks.{flag}
+use Rattle.recalc.specs.Before.{row_shows}
+use Rattle.recalc.specs.Change.{change, Updated}
 use Rattle.recalc.specs.Showing.{nth_shown, values_from, sheet_values, ShownIn, table_shows}
 use Rattle.recalc.proofs.Rows.{values_length, same_values}
 use Rattle.recalc.specs.SheetLaws.{number_inside}
@@ -19,7 +22,7 @@ use Rattle.recalc.proofs.Numbered.{checked_sized, few_cells, nth_is}
 use Rattle.edit.specs.declared.write.Write as code
 use Rattle.edit.specs.Writes.{Write, written, asked, put_inside, allowed}
 use Rattle.edit.specs.Places.{places_from}
-use Rattle.edit.specs.Values.{value_at, table_differs, formula_marked}
+use Rattle.edit.specs.Values.{table_differs, formula_marked}
 use Rattle.edit.specs.Memory.{cell_stored, with_cell, written_memory, Wrote}
 use Rattle.edit.proofs.Rows.{value_there, row_shown}
 use Rattle.edit.proofs.Recalculated.{Noted, sheet_now, same, changed_told, marked_worked, values_shown}
@@ -134,56 +137,56 @@ module _ (w : code.Write) (xs vs : List ℕ) (k : ℕ) (ok : is_ok (checked xs) 
     pub cols_now : cols_in ys ≡ cols_in xs
     cols_now = ap (λ (x : Sheet). x.cols) sheet_now_is
 
-    -- after what the cells showed was read
-    module _ (shown : ShownIn (sheet_in xs) vs) (bs : List Value) (read : (i : ℕ) → i < cell_count → shows bs i ≡ value_at vs i) where
-      -- what was read is what the cells showed
-      was : (i : ℕ) → i < cell_count → shows bs i ≡ nth_shown (sheet_in xs) i
-      was i l = read i l ∙ value_there (nth_shown (sheet_in xs)) cell_count vs _ shown i l
+    -- where the row has what the cells showed
+    module _ (shown : ShownIn (sheet_in xs) vs) where
+      -- so it is read
+      was : (i : ℕ) → i < cell_count → row_shows vs i ≡ nth_shown (sheet_in xs) i
+      was = value_there (nth_shown (sheet_in xs)) cell_count vs _ shown
 
-      -- and what the row begins with
-      pub values_read : vs ≡ values_from (shows bs) 0 cell_count ++ drop (2 * cell_count) vs
+      pub values_read : vs ≡ values_from (row_shows vs) 0 cell_count ++ drop (2 * cell_count) vs
       values_read =
           shown
           ∙ ap (λ zs. zs ++ drop (2 * cell_count) vs)
-          (same_values (nth_shown (sheet_in xs)) (shows bs) 0 cell_count (λ i l u. sym (was i (omega arith))))
+          (same_values (nth_shown (sheet_in xs)) (row_shows vs) 0 cell_count (λ i l u. sym (was i (omega arith))))
 
-      -- where the written cell alone is marked
-      module _ (ms : List Bool) (only : (i : ℕ) → flag ms i ≡ true → i ≡ k) (mark : flag ms k ≡ true) where
-        -- the engine is told what was shown and what was written
-        noted : Noted v (sheet_in xs) bs ms
-        noted =
+      -- the engine is told that, and that cell k was written
+      abbrev hit : ℕ → Bool
+      hit i = eqb i k
+
+      noted : Noted v (sheet_in xs) (row_shows vs) hit
+      noted =
+          record {
+            was = was;
+            at_most = λ i h. eqb-true i k h ∙ number_is v a;
+            at_least = eq-eqb (v.row * cols_in xs + v.col) k (sym (number_is v a));
+            within = a.within;
+          }
+
+      -- after the update
+      module _ (t : List Progress) (d : List Mark) (up : Updated (change (sheet_language (sheet_in ys)) (row_shows vs) hit) t d) where
+        updated : Updated (change (sheet_language now) (row_shows vs) hit) t d
+        updated = subst (λ x. Updated (change (sheet_language x) (row_shows vs) hit) t d) sheet_now_is up
+
+        marked : (i : ℕ) → i < cell_count → formula_marked ys d i ≡ (flag d i && is_some (nth_cell now i))
+        marked i l = ap (λ o. flag d i && is_some o) (sym (nth_is ys i (subst (λ x. i < count x) (sym sheet_now_is) l)) ∙ ap (λ x. nth_cell x i) sheet_now_is)
+
+        pub wrote : (us : List ℕ) (cs rs cs₀ rs₀ : List CellRef) → us ≡ values_from (table_shows t) 0 cell_count ++ drop (2 * cell_count) vs
+            → cs ≡ places_from (cols_in ys) (table_differs t (row_shows vs)) 0 cell_count → rs ≡ places_from (cols_in ys) (formula_marked ys d) 0 cell_count
+            → Wrote v (record { nums = xs; values = vs; changed = cs₀; recalculated = rs₀ }) (record { nums = ys; values = us; changed = cs; recalculated = rs })
+        wrote us cs rs cs₀ rs₀ values changed recalculated =
+            let s = sheet_in xs in
+            let told = changed_told v s cells holds (row_shows vs) hit noted t d updated in
+            let worked = marked_worked v s cells holds (row_shows vs) hit noted t d updated (formula_marked ys d) marked in
+            let now_shown : values_from (table_shows t) 0 (count s) ≡ sheet_values (sheet_in ys) =
+            values_shown v s cells holds (row_shows vs) hit noted t d updated ∙ ap sheet_values (sym sheet_now_is) in
+            let row : us ≡ sheet_values (sheet_in ys) ++ drop (2 * count s) vs =
+            values ∙ ap (λ zs. zs ++ drop (2 * count s) vs) now_shown in
             record {
-              was = was;
-              at_most = λ i h. only i h ∙ number_is v a;
-              at_least = ap (flag ms) (sym (number_is v a)) ∙ mark;
-              within = a.within;
+              memory = memory_is;
+              sheet = subst (λ x. Same x (written v s)) (sym sheet_now_is) (same v s cells holds);
+              formed = formed_now;
+              values = row;
+              shown = row_shown (sheet_in ys) vs us (row ∙ ap (λ x. sheet_values (sheet_in ys) ++ drop (2 * count x) vs) (sym sheet_now_is));
+              changed = changed ∙ ap (λ w. places_from w (table_differs t (row_shows vs)) 0 cell_count) cols_now ∙ told;
+              recalculated = recalculated ∙ ap (λ w. places_from w (formula_marked ys d) 0 cell_count) cols_now ∙ worked;
             }
-
-        -- after the update
-        module _ (t : List Progress) (d : List Bool) (up : Updated (change (sheet_language (sheet_in ys)) bs ms) t d) where
-          updated : Updated (change (sheet_language now) bs ms) t d
-          updated = subst (λ x. Updated (change (sheet_language x) bs ms) t d) sheet_now_is up
-
-          marked : (i : ℕ) → i < cell_count → formula_marked ys d i ≡ (flag d i && is_some (nth_cell now i))
-          marked i l = ap (λ o. flag d i && is_some o) (sym (nth_is ys i (subst (λ x. i < count x) (sym sheet_now_is) l)) ∙ ap (λ x. nth_cell x i) sheet_now_is)
-
-          pub wrote : (us : List ℕ) (cs rs cs₀ rs₀ : List CellRef) → us ≡ values_from (table_shows t) 0 cell_count ++ drop (2 * cell_count) vs
-              → cs ≡ places_from (cols_in ys) (table_differs t bs) 0 cell_count → rs ≡ places_from (cols_in ys) (formula_marked ys d) 0 cell_count
-              → Wrote v (record { nums = xs; values = vs; changed = cs₀; recalculated = rs₀ }) (record { nums = ys; values = us; changed = cs; recalculated = rs })
-          wrote us cs rs cs₀ rs₀ values changed recalculated =
-              let s = sheet_in xs in
-              let told = changed_told v s cells holds bs ms noted t d updated in
-              let worked = marked_worked v s cells holds bs ms noted t d updated (formula_marked ys d) marked in
-              let now_shown : values_from (table_shows t) 0 (count s) ≡ sheet_values (sheet_in ys) =
-              values_shown v s cells holds bs ms noted t d updated ∙ ap sheet_values (sym sheet_now_is) in
-              let row : us ≡ sheet_values (sheet_in ys) ++ drop (2 * count s) vs =
-              values ∙ ap (λ zs. zs ++ drop (2 * count s) vs) now_shown in
-              record {
-                memory = memory_is;
-                sheet = subst (λ x. Same x (written v s)) (sym sheet_now_is) (same v s cells holds);
-                formed = formed_now;
-                values = row;
-                shown = row_shown (sheet_in ys) vs us (row ∙ ap (λ x. sheet_values (sheet_in ys) ++ drop (2 * count x) vs) (sym sheet_now_is));
-                changed = changed ∙ ap (λ w. places_from w (table_differs t bs) 0 cell_count) cols_now ∙ told;
-                recalculated = recalculated ∙ ap (λ w. places_from w (formula_marked ys d) 0 cell_count) cols_now ∙ worked;
-              }

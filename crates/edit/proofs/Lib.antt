@@ -3,7 +3,6 @@ pub mod Differing
 pub mod Holding
 pub mod Stored
 pub mod Rows
-pub mod Noting
 pub mod Recalculated
 pub mod Cells
 pub mod Inside

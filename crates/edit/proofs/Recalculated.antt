@@ -15,7 +15,9 @@ use Rattle.recalc.specs.Sheets.{Sheet, inside, held, Same, cell_looks}
 use Rattle.recalc.specs.Sheets as sheets
 use Rattle.recalc.specs.Language.{shown}
 use Rattle.recalc.specs.Numbered.{count, number_of, nth_cell, laid, sheet_language}
-use Rattle.recalc.specs.Change.{Change, shows, flag, change, Dirty, Updated}
+use Rattle.recalc.specs.Change.{Change, change, Dirty, Updated}
+use Rattle.recalc.specs.declared.mark.Mark.{Mark}
+use Rattle.recalc.specs.Marks.{is_marked, flag}
 use Rattle.recalc.specs.Entries.{by_number}
 use Rattle.recalc.specs.Showing.{nth_shown, value_known, values_from, sheet_values, table_shows}
 use Rattle.recalc.specs.Shown.{shown_at}
@@ -64,10 +66,10 @@ swap false true c e = e
 swap false false c e = refl
 
 -- what the cells showed is known, and which one was written
-pub record Noted (w : Write) (s : Sheet) (vs : List Value) (ws : List Bool) : Type 0 where
-  pub was : (k : ℕ) → k < count s → shows vs k ≡ nth_shown s k
-  pub at_most : (k : ℕ) → flag ws k ≡ true → k ≡ w.row * s.cols + w.col
-  pub at_least : flag ws (w.row * s.cols + w.col) ≡ true
+pub record Noted (w : Write) (s : Sheet) (old : ℕ → Value) (hit : ℕ → Bool) : Type 0 where
+  pub was : (k : ℕ) → k < count s → old k ≡ nth_shown s k
+  pub at_most : (k : ℕ) → hit k ≡ true → k ≡ w.row * s.cols + w.col
+  pub at_least : hit (w.row * s.cols + w.col) ≡ true
   pub within : inside s w.row w.col ≡ true
 
 -- a sheet of the same size that holds at each place what the written one holds
@@ -87,16 +89,16 @@ module _ (w : Write) (s : Sheet) (cells : ℕ → ℕ → Option Formula) where
         sym (shown_laid sheet_now q.row q.col ∙ laid_inside sheet_now (shown (sheet_language sheet_now)) q i)
         ∙ same_shown sheet_now (written w s) same q.row q.col
 
-    module _ (vs : List Value) (ws : List Bool) (noted : Noted w s vs ws) where
+    module _ (old : ℕ → Value) (hit : ℕ → Bool) (noted : Noted w s old hit) where
       -- what was noted is what the places showed
-      was_laid : laid sheet_now (shows vs) ≡ sheets.shown s
+      was_laid : laid sheet_now old ≡ sheets.shown s
       was_laid =
-          fun_ext (λ r. fun_ext (λ c. laid_same s (nth_shown s) (shows vs) (the_ref r c) (λ i. noted.was (r * s.cols + c) (number_inside s (the_ref r c) i))))
+          fun_ext (λ r. fun_ext (λ c. laid_same s (nth_shown s) old (the_ref r c) (λ i. noted.was (r * s.cols + c) (number_inside s (the_ref r c) i))))
           ∙ laid_by_number s (sheets.shown s) (shown_is_consistent s)
 
       -- so it is place by place
-      place_showed : (q : CellRef) → inside s q.row q.col ≡ true → shows vs (number_of s q) ≡ shown_at s q
-      place_showed q i = sym (laid_inside s (shows vs) q i) ∙ ap (λ (f : ℕ → ℕ → Value). f q.row q.col) was_laid
+      place_showed : (q : CellRef) → inside s q.row q.col ≡ true → old (number_of s q) ≡ shown_at s q
+      place_showed q i = sym (laid_inside s old q i) ∙ ap (λ (f : ℕ → ℕ → Value). f q.row q.col) was_laid
 
       -- a place that shows something else is inside
       differs_inside : (q : CellRef) → differs_at s (written w s) q ≡ true → inside s q.row q.col ≡ true
@@ -111,7 +113,7 @@ module _ (w : Write) (s : Sheet) (cells : ℕ → ℕ → Option Formula) where
 
       -- where a cell that was not written looked
       looked_is : (k : ℕ) → target w (k / s.cols) (k % s.cols) ≡ false
-          → cell_looks (laid sheet_now (shows vs)) (nth_cell sheet_now k) ≡ cell_looks (sheets.shown s) (nth_cell s k)
+          → cell_looks (laid sheet_now old) (nth_cell sheet_now k) ≡ cell_looks (sheets.shown s) (nth_cell s k)
       looked_is k e =
           ap (λ (f : ℕ → ℕ → Value). cell_looks f (nth_cell sheet_now k)) was_laid
           ∙ ap (cell_looks (sheets.shown s)) (holds (k / s.cols) (k % s.cols) ∙ not_written w s (k / s.cols) (k % s.cols) e)
@@ -138,7 +140,7 @@ module _ (w : Write) (s : Sheet) (cells : ℕ → ℕ → Option Formula) where
 
       -- the change as the engine has it
       abbrev the_change : Change
-      the_change = change (sheet_language sheet_now) vs ws
+      the_change = change (sheet_language sheet_now) old hit
 
       -- what is dirty is worked out again
       dirty_again : (k : ℕ) → Dirty the_change k → again k ≡ true
@@ -151,7 +153,7 @@ module _ (w : Write) (s : Sheet) (cells : ℕ → ℕ → Option Formula) where
               or_right (target w (k / s.cols) (k % s.cols)) (any_differs s (written w s) (cell_looks (sheets.shown s) (nth_cell s k)))
               (differs_in s (written w s) (cell_looks (sheets.shown s) (nth_cell s k)) q (subst (In q) (looked_is k d) i)
               (differs_true (shown_at (written w s) q) (shown_at s q)
-              (λ z. other (ap (shown (sheet_language sheet_now)) (sym e) ∙ place_shows q within ∙ z ∙ sym (place_showed q within) ∙ ap (shows vs) e))))
+              (λ z. other (ap (shown (sheet_language sheet_now)) (sym e) ∙ place_shows q within ∙ z ∙ sym (place_showed q within) ∙ ap old e))))
 
       -- and what is worked out again is dirty
       again_dirty : (k : ℕ) → again k ≡ true → Dirty the_change k
@@ -168,12 +170,12 @@ module _ (w : Write) (s : Sheet) (cells : ℕ → ℕ → Option Formula) where
               )
 
           go : (b : Bool) → target w (k / s.cols) (k % s.cols) ≡ b → Dirty the_change k
-          go true d = inl (ap (flag ws) (is_target k d) ∙ noted.at_least)
+          go true d = inl (ap hit (is_target k d) ∙ noted.at_least)
           go false d =
               looked d (one_differs s (written w s) (cell_looks (sheets.shown s) (nth_cell s k))
               (ap (λ b. b || any_differs s (written w s) (cell_looks (sheets.shown s) (nth_cell s k))) (sym d) ∙ e))
 
-      module _ (t : List Progress) (d : List Bool) (up : Updated the_change t d) where
+      module _ (t : List Progress) (d : List Mark) (up : Updated the_change t d) where
         -- the table has what the written sheet shows
         table_is : (k : ℕ) → k < count s → table_shows t k ≡ nth_shown sheet_now k
         table_is k l = ap value_known (up.known k l) ∙ nth_shown_is sheet_now k l
@@ -183,15 +185,15 @@ module _ (w : Write) (s : Sheet) (cells : ℕ → ℕ → Option Formula) where
         now_shows k = same_shown sheet_now (written w s) same (k / s.cols) (k % s.cols)
 
         -- so the places where the table differs are those that are told
-        pub changed_told : places_from s.cols (table_differs t vs) 0 (count s) ≡ told s (written w s)
+        pub changed_told : places_from s.cols (table_differs t old) 0 (count s) ≡ told s (written w s)
         changed_told =
-            same_places s.cols (table_differs t vs) (by_number s.cols (λ r c. differs (sheets.shown (written w s) r c) (sheets.shown s r c))) 0 (count s)
+            same_places s.cols (table_differs t old) (by_number s.cols (λ r c. differs (sheets.shown (written w s) r c) (sheets.shown s r c))) 0 (count s)
             (λ k a b. let l : k < count s = omega arith in
-            ap (λ v. differs v (shows vs k)) (table_is k l ∙ now_shows k) ∙ ap (differs (nth_shown (written w s) k)) (noted.was k l))
+            ap (λ v. differs v (old k)) (table_is k l ∙ now_shows k) ∙ ap (differs (nth_shown (written w s) k)) (noted.was k l))
 
         -- the marks are at what is worked out again
         marked_is : (k : ℕ) → k < count s → flag d k ≡ again k
-        marked_is k l = same_test (flag d k) (again k) (λ e. dirty_again k (up.only k e)) (λ e. up.all k l (again_dirty k e))
+        marked_is k l = same_test (flag d k) (again k) (λ e. dirty_again k (up.only k e)) (λ e. ap is_marked (up.all k l (again_dirty k e)))
 
         -- so the marked formulas are those that are worked out again
         pub marked_worked : (test : ℕ → Bool) → ((k : ℕ) → k < count s → test k ≡ (flag d k && is_some (nth_cell sheet_now k))) → places_from s.cols test 0 (count s) ≡ worked w s

@@ -7,7 +7,6 @@ mod formulas;
 mod laws;
 mod memory;
 mod place_list;
-mod room;
 mod shown;
 mod shown_sheet;
 mod values;
@@ -16,7 +15,7 @@ mod writing;
 
 pub use changes::Changes;
 pub use laws::{not_worked_stays, stair_writes, told_exactly, worked_exactly};
-pub use room::Room;
+pub use recalc::Room;
 pub use shown_sheet::ShownSheet;
 pub use write::Write;
 pub use writing::{write_cell, write_shown};

@@ -7,11 +7,10 @@ ghost use Rattle.edit.specs.Memory.{Writes};
 ghost use Rattle.edit.specs.States.{state};
 
 use crate::changes::Changes;
-use crate::room::Room;
 use crate::shown_sheet::ShownSheet;
 use crate::write::Write;
 use crate::writing::write_cell;
-use recalc::{Refusal, show_sheet};
+use recalc::{Refusal, Room, show_sheet};
 
 impl<'a> ShownSheet<'a> {
     // Shows the sheet in the row; what the row holds after a refusal is told by `show_sheet`.

@@ -1,9 +1,8 @@
 // A write into a lent sheet, with the row of what it shows.
-ghost use Rattle.std.specs.Prelude.{◌≡◌, ◌≤◌, true, is_ok};
-ghost use Rattle.evaluate.specs.Limits.{max_cells};
+ghost use Rattle.std.specs.Prelude.{◌≡◌, true, is_ok};
 ghost use Rattle.recalc.specs.Layout.{checked};
 ghost use Rattle.recalc.specs.Sheets.{inside, sheet_in};
-ghost use Rattle.recalc.specs.Numbered.{count, number_of};
+ghost use Rattle.recalc.specs.Numbered.{number_of};
 ghost use Rattle.recalc.specs.Showing.{ShownIn};
 ghost use Rattle.edit.specs.Writes.{allowed};
 ghost use Rattle.edit.specs.Memory.{Ready, WroteAsked, Writes, ShowsAndWrites};
@@ -12,21 +11,17 @@ ghost use Rattle.edit.specs.States.{state};
 use crate::changes::Changes;
 use crate::check::check_write;
 use crate::memory::put_cell;
-use crate::room::Room;
 use crate::write::Write;
 use formula::CellRef;
-use recalc::{LentSheet, Refusal, show_sheet};
+use recalc::{LentSheet, Overwritten, Refusal, Room, show_sheet};
 
-// How many cells a sheet has, and which of them is at a place.
-fn target(nums: &[u64], place: CellRef) -> (usize, usize)
+// Which cell of a sheet is at a place.
+fn target(nums: &[u64], place: CellRef) -> usize
     requires sheet { is_ok (checked nums.now) ≡ true }
     requires inside { inside (sheet_in nums.now) place.row place.col ≡ true }
-    ensures count { result.0 ≡ count (sheet_in nums.now) }
-    ensures few { result.0 ≤ max_cells }
-    ensures number { result.1 ≡ number_of (sheet_in nums.now) place }
+    ensures { result ≡ number_of (sheet_in nums.now) place }
 {
-    let sheet = LentSheet::of(nums);
-    (sheet.count(), sheet.number(place))
+    LentSheet::of(nums).number(place)
 }
 
 // A write that is not refused. The sheet and its row are lent apart: while it goes on, the row is not what the sheet shows. Room and lists too:
@@ -44,12 +39,11 @@ fn write_inside(
     ensures wrote { WroteAsked write.entry (state nums.old values.old changes.old) (state nums.new values.new changes.new) }
     ensures ready { Ready (state nums.new values.new changes.new) }
 {
-    let (n, k) = target(nums, write.place);
-    room.note_before(values, n, k);
-    put_cell(nums, k, write.formula);
+    let cell = target(nums, write.place);
+    put_cell(nums, cell, write.formula);
     let after = LentSheet::of(nums);
-    room.recalculate(&after);
-    room.tell(&after, values, changes);
+    room.recalculate(&after, &Overwritten { values, cell });
+    changes.tell(&after, room, values);
 }
 
 // Writes into a sheet that is not refused, of which `values` has what it shows. The cell is worked out, and so are the formulas that

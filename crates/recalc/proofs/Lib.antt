@@ -7,8 +7,10 @@ pub mod Counting
 pub mod Settling
 pub mod Cycles
 pub mod Table
+pub mod Marking
 pub mod Moves
 pub mod Turns
+pub mod Goings
 pub mod Starts
 pub mod Rows
 pub mod Shown

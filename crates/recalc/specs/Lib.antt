@@ -3,6 +3,8 @@ pub mod Layout
 pub mod Sheets
 pub mod Language
 pub mod Theory
+pub mod Before
+pub mod Marks
 pub mod Table
 pub mod Change
 pub mod Turns

@@ -1,164 +1,131 @@
-// What the cells show, and which of them are dirty after a change: one recalculation for both, in a memory of fixed size.
-ghost use Rattle.std.specs.Prelude.{◌≡◌, ℕ, ◌<◌, ◌≤◌, Bool, true, false, List, [], ◌∷◌, ◌++◌, length, replicate, ◌≢◌, slice_set};
+// What the cells show, and which of them are dirty after a change: one recalculation for both, in lent memory.
+ghost use Rattle.std.specs.Prelude.{◌≡◌, ℕ, ◌<◌, ◌≤◌, true, false, [], ◌∷◌, ◌++◌, ◌-◌, length, take, replicate, ◌≢◌, slice_set, MatchOption};
 ghost use Rattle.evaluate.specs.declared.value.Value.{Value};
 ghost use Rattle.recalc.specs.declared.formulas.Progress.TheVariants.{Waiting, Open, Known};
 ghost use Rattle.recalc.specs.Table.{at, Top, Later, Right, Answers, NeedsWithin};
-ghost use Rattle.recalc.specs.Change.{shows, flag, change, Kept, Updated};
+ghost use Rattle.recalc.specs.declared.mark.Mark.TheVariants as mark;
+ghost use Rattle.recalc.specs.Marks.{mark_at, mark_if, flag, worked_out};
+ghost use Rattle.recalc.specs.Change.{change, Kept, Updated};
 
+use crate::before::Before;
 use crate::formulas::{Formulas, Progress};
-use arrayvec::ArrayVec;
+use crate::mark::Mark;
 use evaluate::{CellError, Value};
 
-// Of at most N cells. The lists are parallel, and no list of cells: an attempt is lent one whole table or the other, and what was shown
-// before and which are dirty is read as lists by those who tell what changed. The formulas are lent to each step and no field, since a
-// recalculation outlives them: it is lent to write after write.
+// One that is going on. The lists are parallel, and no list of cells: an attempt is lent one whole table or the other, and who tells what
+// changed reads the rest as lists.
 #[derive(Drop)]
-pub struct Recalculation<const N: usize> {
-    // What each cell showed before the change.
-    before: ArrayVec<Value, N>,
-    // What it shows, as far as it is known.
-    table: ArrayVec<Progress, N>,
+struct Recalculation<'a, F: Formulas, B: Before> {
+    formulas: &'a F,
+    before: &'a B,
+    // What each cell shows, as far as it is known.
+    table: &'a mut [Progress],
     // What of that is what it showed.
-    kept: ArrayVec<Progress, N>,
-    // At first the cells that were written, and then those that are dirty.
-    dirty: ArrayVec<bool, N>,
-    // The open cells, each looked at by the one before it.
-    stack: ArrayVec<usize, N>,
-    ghost table_even: { length table.items ≡ length before.items },
-    ghost kept_even: { length kept.items ≡ length before.items },
-    ghost dirty_even: { length dirty.items ≡ length before.items },
-    ghost few: { length before.items ≤ N },
+    kept: &'a mut [Progress],
+    // At first which cells were written, and then which are dirty.
+    marks: &'a mut [Mark],
+    // The open cells, each looked at by the one before it, are the first `depth` of these. No stack of its own type in here: tried, and what
+    // the lent lists hold at the end was not known.
+    stack: &'a mut [usize],
+    depth: usize,
+    ghost table_even: { length table.now ≡ (F.language formulas.now).count },
+    ghost kept_even: { length kept.now ≡ (F.language formulas.now).count },
+    ghost marks_even: { length marks.now ≡ (F.language formulas.now).count },
+    ghost room: { (F.language formulas.now).count ≤ length stack.now },
+    ghost deep: { depth ≤ length stack.now },
 }
 
-impl<const N: usize> Recalculation<N> {
-    ghost use Rattle.recalc.specs.Turns.{Going, Turned};
-
-    // Of no cells.
-    pub fn new() -> Recalculation<N>
-        ensures before { result.before.items ≡ [] }
-        ensures dirty { result.dirty.items ≡ [] }
-    {
-        Recalculation {
-            before: ArrayVec::new(),
-            table: ArrayVec::new(),
-            kept: ArrayVec::new(),
-            dirty: ArrayVec::new(),
-            stack: ArrayVec::new(),
-        }
-    }
-
-    // It is of no cells again.
-    pub fn clear(&mut self)
-        ensures before { self.new.before.items ≡ [] }
-        ensures dirty { self.new.dirty.items ≡ [] }
-    {
-        self.before.clear();
-        self.table.clear();
-        self.kept.clear();
-        self.dirty.clear();
-    }
-
-    // One cell more, with what it showed, and whether it was written since.
-    pub fn add(&mut self, before: Value, written: bool)
-        requires { length self.old.before.items < N }
-        ensures before { self.new.before.items ≡ self.old.before.items ++ before ∷ [] }
-        ensures dirty { self.new.dirty.items ≡ self.old.dirty.items ++ written ∷ [] }
-    {
-        self.before.push(before);
-        self.table.push(Progress::Waiting);
-        self.kept.push(Progress::Waiting);
-        self.dirty.push(written);
-    }
-
-    // What each cell showed before.
-    pub fn before(&self) -> &[Value]
-        ensures { result.now ≡ self.now.before.items }
-    {
-        self.before.as_slice()
-    }
-
-    // What each cell shows after a run.
-    pub fn table(&self) -> &[Progress]
-        ensures { result.now ≡ self.now.table.items }
-    {
-        self.table.as_slice()
-    }
-
-    // The cells that were dirty in a run.
-    pub fn dirty(&self) -> &[bool]
-        ensures { result.now ≡ self.now.dirty.items }
-    {
-        self.dirty.as_slice()
-    }
+impl<'a, F: Formulas, B: Before> Recalculation<'a, F, B> {
+    ghost use Rattle.recalc.specs.Turns.{on_stack, change_of, Same, Going, Turned};
 
     // Notes v as what cell k shows, and also as kept if it is what the cell showed.
     fn note(&mut self, k: usize, v: Value)
-        requires { k < length self.old.before.items }
-        ensures before { self.new.before.items ≡ self.old.before.items }
-        ensures table { self.new.table.items ≡ slice_set self.old.table.items k (Known v) }
-        ensures kept { Kept (shows self.old.before.items) k v self.old.kept.items self.new.kept.items }
-        ensures dirty { self.new.dirty.items ≡ self.old.dirty.items }
-        ensures stack { self.new.stack.items ≡ self.old.stack.items }
+        requires { k < (F.language self.old.formulas.now).count }
+        ensures same { Same self.old self.new }
+        ensures table { self.new.table.now ≡ slice_set self.old.table.now k (Known v) }
+        ensures kept { Kept (B.shows self.old.before.now) k v self.old.kept.now self.new.kept.now }
+        ensures marks { self.new.marks.now ≡ self.old.marks.now }
+        ensures stack { on_stack self.new ≡ on_stack self.old }
     {
         self.table[k] = Progress::Known(v);
-        if v == self.before[k] {
+        if v == self.before.value(k) {
             self.kept[k] = Progress::Known(v);
         }
     }
 
     // Puts cell k on the stack.
     fn open(&mut self, k: usize)
-        requires within { k < length self.old.before.items }
-        requires room { length self.old.stack.items < N }
-        ensures before { self.new.before.items ≡ self.old.before.items }
-        ensures table { self.new.table.items ≡ slice_set self.old.table.items k (Open (length self.old.stack.items)) }
-        ensures kept { self.new.kept.items ≡ self.old.kept.items }
-        ensures dirty { self.new.dirty.items ≡ self.old.dirty.items }
-        ensures stack { self.new.stack.items ≡ self.old.stack.items ++ k ∷ [] }
+        requires within { k < (F.language self.old.formulas.now).count }
+        requires room { length (on_stack self.old) < (F.language self.old.formulas.now).count }
+        ensures same { Same self.old self.new }
+        ensures table { self.new.table.now ≡ slice_set self.old.table.now k (Open (length (on_stack self.old))) }
+        ensures kept { self.new.kept.now ≡ self.old.kept.now }
+        ensures marks { self.new.marks.now ≡ self.old.marks.now }
+        ensures stack { on_stack self.new ≡ on_stack self.old ++ k ∷ [] }
     {
-        self.table[k] = Progress::Open(self.stack.len());
-        self.stack.push(k);
+        self.table[k] = Progress::Open(self.depth);
+        self.stack[self.depth] = k;
+        self.depth += 1;
+    }
+
+    // The cell on top of the stack.
+    fn top(&self) -> Option<usize>
+        ensures { MatchOption result (on_stack self.now ≡ []) (Top (on_stack self.now)) }
+    {
+        let last = self.depth.checked_sub(1)?;
+        Some(self.stack[last])
+    }
+
+    // Takes cell k, which is on top, off the stack: if it was marked, it is worked out.
+    fn close(&mut self, k: usize)
+        requires { k < (F.language self.old.formulas.now).count }
+        ensures same { Same self.old self.new }
+        ensures table { self.new.table.now ≡ self.old.table.now }
+        ensures kept { self.new.kept.now ≡ self.old.kept.now }
+        ensures marks { self.new.marks.now ≡ slice_set self.old.marks.now k (worked_out (mark_at self.old.marks.now k)) }
+        ensures stack { on_stack self.new ≡ take (length (on_stack self.old) - 1) (on_stack self.old) }
+    {
+        self.depth = self.depth.saturating_sub(1);
+        self.marks[k] = self.marks[k].worked_out();
     }
 
     // Marks cell k as dirty.
     fn mark(&mut self, k: usize)
-        requires { k < length self.old.before.items }
-        ensures before { self.new.before.items ≡ self.old.before.items }
-        ensures table { self.new.table.items ≡ self.old.table.items }
-        ensures kept { self.new.kept.items ≡ self.old.kept.items }
-        ensures dirty { self.new.dirty.items ≡ slice_set self.old.dirty.items k true }
-        ensures stack { self.new.stack.items ≡ self.old.stack.items }
+        requires { k < (F.language self.old.formulas.now).count }
+        ensures same { Same self.old self.new }
+        ensures table { self.new.table.now ≡ self.old.table.now }
+        ensures kept { self.new.kept.now ≡ self.old.kept.now }
+        ensures marks { self.new.marks.now ≡ slice_set self.old.marks.now k mark.Dirty }
+        ensures stack { on_stack self.new ≡ on_stack self.old }
     {
-        self.dirty[k] = true;
+        self.marks[k] = Mark::Dirty;
     }
 
-    // Cell k from what is known if it is dirty, and else from the cells alone that show what they showed.
-    fn attempt<F: Formulas>(&self, formulas: &F, k: usize) -> Result<Value, usize>
-        requires within { k < (F.language formulas.now).count }
-        requires size { length self.now.before.items ≡ (F.language formulas.now).count }
-        ensures within { NeedsWithin (F.language formulas.now).count result }
-        ensures all { flag self.now.dirty.items k ≡ true → (s : ℕ → Value) → Right s self.now.table.items → Answers ((F.language formulas.now).work s k) ((F.language formulas.now).looks s k) self.now.table.items result }
-        ensures same { flag self.now.dirty.items k ≡ false → (s : ℕ → Value) → Right s self.now.kept.items → Answers ((F.language formulas.now).work s k) ((F.language formulas.now).looks s k) self.now.kept.items result }
+    // Cell k from what is known if it is marked, and else from the cells alone that show what they showed. None is worked out again that was.
+    fn attempt(&self, k: usize) -> Result<Value, usize>
+        requires within { k < (F.language self.now.formulas.now).count }
+        requires once { mark_at self.now.marks.now k ≢ mark.Recalculated }
+        ensures within { NeedsWithin (F.language self.now.formulas.now).count result }
+        ensures all { flag self.now.marks.now k ≡ true → (s : ℕ → Value) → Right s self.now.table.now → Answers ((F.language self.now.formulas.now).work s k) ((F.language self.now.formulas.now).looks s k) self.now.table.now result }
+        ensures same { flag self.now.marks.now k ≡ false → (s : ℕ → Value) → Right s self.now.kept.now → Answers ((F.language self.now.formulas.now).work s k) ((F.language self.now.formulas.now).looks s k) self.now.kept.now result }
     {
-        let known = if self.dirty[k] {
-            self.table()
+        if self.marks[k].is_marked() {
+            self.formulas.attempt(k, self.table)
         } else {
-            self.kept.as_slice()
-        };
-        formulas.attempt(k, known)
+            self.formulas.attempt(k, self.kept)
+        }
     }
 
     // One turn at the cell k on top of the stack.
-    fn turn<F: Formulas>(&mut self, formulas: &F, k: usize)
-        ghost written: { List Bool }
-        requires going { Going (F.language formulas.now) self.old.before.items written self.old }
-        requires top { Top self.old.stack.items k }
-        ensures { Turned (F.language formulas.now) self.old.before.items written self.old self.new }
+    fn turn(&mut self, k: usize)
+        requires going { Going self.old self.old }
+        requires top { Top (on_stack self.old) k }
+        ensures { Turned self.old self.new }
     {
-        match self.attempt(formulas, k) {
+        match self.attempt(k) {
             Ok(v) => {
                 self.note(k, v);
-                let _ = self.stack.pop();
+                self.close(k);
             },
             Err(j) => match self.table[j] {
                 Progress::Waiting => self.open(j),
@@ -169,69 +136,90 @@ impl<const N: usize> Recalculation<N> {
     }
 
     // Works off the stack.
-    fn settle<F: Formulas>(&mut self, formulas: &F)
-        ghost written: { List Bool }
-        requires going { Going (F.language formulas.now) self.old.before.items written self.old }
-        ensures going { Going (F.language formulas.now) self.old.before.items written self.new }
-        ensures later { Later self.old.table.items self.new.table.items }
-        ensures none { self.new.stack.items ≡ [] }
+    fn settle(&mut self)
+        requires going { Going self.old self.old }
+        ensures going { Going self.old self.new }
+        ensures later { Later self.old.table.now self.new.table.now }
+        ensures none { on_stack self.new ≡ [] }
     {
-        while let Some(k) = self.stack.last().copied() {
-            self.turn(formulas, k);
+        while let Some(k) = self.top() {
+            self.turn(k);
         }
     }
 
     // Goes to cell k, unless it is known already.
-    fn visit<F: Formulas>(&mut self, formulas: &F, k: usize)
-        ghost written: { List Bool }
-        requires going { Going (F.language formulas.now) self.old.before.items written self.old }
-        requires none { self.old.stack.items ≡ [] }
-        requires within { k < length self.old.before.items }
-        ensures going { Going (F.language formulas.now) self.old.before.items written self.new }
-        ensures none { self.new.stack.items ≡ [] }
-        ensures later { Later self.old.table.items self.new.table.items }
-        ensures here { at self.new.table.items k ≢ Waiting }
+    fn visit(&mut self, k: usize)
+        requires going { Going self.old self.old }
+        requires none { on_stack self.old ≡ [] }
+        requires within { k < (F.language self.old.formulas.now).count }
+        ensures going { Going self.old self.new }
+        ensures none { on_stack self.new ≡ [] }
+        ensures later { Later self.old.table.now self.new.table.now }
+        ensures here { at self.new.table.now k ≢ Waiting }
     {
         if let Progress::Waiting = self.table[k] {
             self.open(k);
-            self.settle(formulas);
+            self.settle();
         }
     }
 
     // Goes to every cell.
-    fn visit_all<F: Formulas>(&mut self, formulas: &F)
-        ghost written: { List Bool }
-        requires going { Going (F.language formulas.now) self.old.before.items written self.old }
-        requires none { self.old.stack.items ≡ [] }
-        ensures before { self.new.before.items ≡ self.old.before.items }
-        ensures updated { Updated (change (F.language formulas.now) self.old.before.items written) self.new.table.items self.new.dirty.items }
+    fn visit_all(&mut self)
+        requires going { Going self.old self.old }
+        requires none { on_stack self.old ≡ [] }
+        ensures same { Same self.old self.new }
+        ensures updated { Updated (change_of self.old) self.new.table.now self.new.marks.now }
     {
         // By number, since the lists change under the loop.
-        for k in 0..self.before.len() {
-            self.visit(formulas, k);
+        for k in 0..self.table.len() {
+            self.visit(k);
         }
     }
+}
 
-    // Nothing is known, and no cell is open.
-    fn forget(&mut self)
-        ensures before { self.new.before.items ≡ self.old.before.items }
-        ensures table { self.new.table.items ≡ replicate (length self.old.before.items) Waiting }
-        ensures kept { self.new.kept.items ≡ replicate (length self.old.before.items) Waiting }
-        ensures dirty { self.new.dirty.items ≡ self.old.dirty.items }
-        ensures stack { self.new.stack.items ≡ [] }
-    {
-        self.table.fill(Progress::Waiting);
-        self.kept.fill(Progress::Waiting);
-        self.stack.clear();
-    }
+// Nothing is known.
+fn forget(table: &mut [Progress])
+    ensures { table.new ≡ replicate (length table.old) Waiting }
+{
+    table.fill(Progress::Waiting);
+}
 
-    // Puts what each cell shows into the table, and marks the cells that are dirty by the change.
-    pub fn run<F: Formulas>(&mut self, formulas: &F)
-        requires { length self.old.before.items ≡ (F.language formulas.now).count }
-        ensures before { self.new.before.items ≡ self.old.before.items }
-        ensures updated { Updated (change (F.language formulas.now) self.old.before.items self.old.dirty.items) self.new.table.items self.new.dirty.items }
-    {
-        self.forget();
-        self.visit_all(formulas);
+// The cells that were written.
+fn mark_written<B: Before>(before: &B, marks: &mut [Mark])
+    ensures { (k : ℕ) → k < length marks.old → mark_at marks.new k ≡ mark_if (B.written before.now k) }
+{
+    for (k, mark) in marks.iter_mut().enumerate() {
+        *mark = Mark::written(before.is_written(k));
     }
+}
+
+// Puts what each cell shows into `table`, and into `marks` which were worked out again: the cells that were written, and those that had
+// looked at one that shows something else than before. `kept` and `stack` are room to work in. It does not matter what the four hold.
+pub fn recalculate<F: Formulas, B: Before>(
+    formulas: &F,
+    before: &B,
+    table: &mut [Progress],
+    kept: &mut [Progress],
+    marks: &mut [Mark],
+    stack: &mut [usize],
+)
+    requires table { length table.old ≡ (F.language formulas.now).count }
+    requires kept { length kept.old ≡ (F.language formulas.now).count }
+    requires marks { length marks.old ≡ (F.language formulas.now).count }
+    requires stack { (F.language formulas.now).count ≤ length stack.old }
+    ensures { Updated (change (F.language formulas.now) (B.shows before.now) (B.written before.now)) table.new marks.new }
+{
+    forget(table);
+    forget(kept);
+    mark_written(before, marks);
+    let mut cells = Recalculation {
+        formulas,
+        before,
+        table,
+        kept,
+        marks,
+        stack,
+        depth: 0,
+    };
+    cells.visit_all();
 }

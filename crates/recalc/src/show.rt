@@ -1,18 +1,14 @@
 // Shows a whole sheet.
 ghost use Rattle.std.specs.Prelude.{◌*◌, ◌≡◌, ◌≤◌, ◌++◌, length, drop};
-ghost use Rattle.evaluate.specs.Limits.{max_cells};
 ghost use Rattle.recalc.specs.Sheets.{sheet_in};
 ghost use Rattle.recalc.specs.Numbered.{count};
 ghost use Rattle.recalc.specs.Showing.{table_numbers, sheet_values, Shows};
 
+use crate::before::Unshown;
 use crate::formulas::Progress;
 use crate::lent::LentSheet;
-use crate::recalculation::Recalculation;
 use crate::refusal::Refusal;
-use evaluate::Value;
-
-// As many cells as the largest sheet has.
-pub const MAX_CELLS: usize = 480;
+use crate::room::Room;
 
 // The two numbers of each value, one cell after the other.
 fn write_values(table: &[Progress], out: &mut [u64])
@@ -25,27 +21,15 @@ fn write_values(table: &[Progress], out: &mut [u64])
     }
 }
 
-// So many cells that are written to for the first time.
-fn new_cells(n: usize) -> Recalculation<MAX_CELLS>
-    requires { n ≤ max_cells }
-    ensures { length result.before.items ≡ n }
-{
-    let mut cells = Recalculation::new();
-    for _ in 0..n {
-        cells.add(Value::Empty, true);
-    }
-    cells
-}
-
 impl LentSheet<'_> {
     // Writes what each cell shows into the front of a row, two numbers a cell in reading order.
     pub fn show(&self, out: &mut [u64])
         requires { 2 * count (sheet_in self.now.nums.now) ≤ length out.old }
         ensures { out.new ≡ sheet_values (sheet_in self.now.nums.now) ++ drop (2 * count (sheet_in self.now.nums.now)) out.old }
     {
-        let mut cells = new_cells(self.count());
-        cells.run(self);
-        write_values(cells.table(), out);
+        let mut room = Room::new();
+        room.recalculate(self, &Unshown);
+        write_values(room.table(self.count()), out);
     }
 }
 

@@ -10,6 +10,8 @@ mod places;
 #[cfg(test)]
 mod reading;
 #[cfg(test)]
+mod recalculating;
+#[cfg(test)]
 mod shifting;
 #[cfg(test)]
 mod showing;

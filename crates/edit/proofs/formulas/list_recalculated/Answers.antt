@@ -14,12 +14,12 @@ loop-k-init c = c.requires.empty
 
 pub add-requires : goal.add-requires
 add-requires c =
-    let f = formula_marked c.args.sheet.now.nums.now c.args.dirty.now in
+    let f = formula_marked c.args.sheet.now.nums.now c.args.marks.now in
     omega (arith, ap length c.loop-k.invariant, places_few (cols_in c.args.sheet.now.nums.now) f 0 c.loop-k.k, c.requires.few)
 
 pub loop-k-preserved : goal.loop-k-preserved
 loop-k-preserved c =
-    let f = formula_marked c.args.sheet.now.nums.now c.args.dirty.now in
+    let f = formula_marked c.args.sheet.now.nums.now c.args.marks.now in
     let cols = cols_in c.args.sheet.now.nums.now in
     let k = c.loop-k.k in
     let at : PlaceList → List CellRef = λ x. vec_items x.places in

@@ -7,4 +7,4 @@ use Rattle.edit.proofs.formulas.list_recalculated.Given as goal
 -- the marked formulas before k are listed
 abbrev pub invariant-loop-k : goal.invariant-loop-k
 invariant-loop-k l =
-    vec_items l.list.places ≡ places_from (cols_in l.sheet.nums.now) (formula_marked l.sheet.nums.now l.dirty) 0 l.k
+    vec_items l.list.places ≡ places_from (cols_in l.sheet.nums.now) (formula_marked l.sheet.nums.now l.marks) 0 l.k

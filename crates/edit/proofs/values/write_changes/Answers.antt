@@ -1,7 +1,7 @@
 use Rattle.std.proofs.Common.{◌≡◌, List, length, vec_items, sym, ap, ◌∙◌, arith}
 use Rattle.formula.specs.declared.token.CellRef.{CellRef}
 use Rattle.evaluate.specs.Values.{value_numbers}
-use Rattle.recalc.specs.Change.{shows}
+use Rattle.recalc.specs.Before.{row_shows}
 use Rattle.recalc.specs.Layout.{cols_in}
 use Rattle.recalc.proofs.Entries.{filled_none}
 use Rattle.recalc.proofs.Rows.{filled_values}
@@ -12,7 +12,7 @@ use Rattle.recalc.specs.Showing.{table_shows}
 use Rattle.edit.specs.Values.{with_value, table_differs}
 use Rattle.edit.proofs.Places.{places_few, places_add, places_pass}
 use Rattle.edit.proofs.Differing.{not_differs}
-use Rattle.edit.proofs.Rows.{value_written, value_left}
+use Rattle.edit.proofs.Rows.{value_written, value_left, still_shows}
 use Rattle.edit.proofs.values.write_changes.Goals as goal
 use Rattle.edit.proofs.values.write_changes.Goals.{then-is_changed, else-is_changed}
 
@@ -22,21 +22,22 @@ loop-k-init c = (filled_none (λ i. value_numbers (table_shows c.args.table.now 
 
 pub add-requires : goal.add-requires
 add-requires c =
-    let f = table_differs c.args.table.now c.args.before.now in
+    let f = table_differs c.args.table.now (row_shows c.args.values.now) in
     omega (arith, ap length c.loop-k.invariant.1, places_few (cols_in c.args.sheet.now.nums.now) f 0 c.loop-k.k, c.requires.few)
 
 pub loop-k-preserved : goal.loop-k-preserved
 loop-k-preserved c =
     let t = c.args.table.now in
-    let vs = c.args.before.now in
     let k = c.loop-k.k in
     let xs = c.args.values.now in
-    let f = table_differs t vs in
+    let old = row_shows xs in
+    let f = table_differs t old in
     let n = length t in
     let inv = c.loop-k.invariant in
     let listed : PlaceList → List CellRef = λ x. vec_items x.places in
     let e = c.known_value-value.ensures in
-    let tested : f k ≡ differs c.known_value-value.result (shows vs k) = ap (λ v. differs v (shows vs k)) (sym e) in
+    let here = c.value_at-before.ensures ∙ still_shows t xs k c.loop-k.values n c.loop-k-test.true c.requires.shown inv.0 in
+    let tested : f k ≡ differs c.known_value-value.result c.value_at-before.result = ap (λ v. differs v (old k)) (sym e) ∙ ap (differs c.known_value-value.result) (sym here) in
     elim c.if-is_changed.branch [
       | then-is_changed w ↦ (
         value_written t xs k c.loop-k.values _ n c.loop-k-test.true inv.0 (w.values-is ∙ w.write.ensures ∙ ap (with_value c.loop-k.values k) e),
@@ -45,7 +46,7 @@ loop-k-preserved c =
       )
       | else-is_changed w ↦ (
         let d = not_differs _ _ (sym w.if-is_changed.ensures) in
-            value_left t vs xs k c.loop-k.values _ n c.loop-k-test.true c.requires.shown inv.0 (sym e ∙ d) w.values-is,
+            value_left t old xs k c.loop-k.values _ n c.loop-k-test.true c.requires.shown inv.0 (sym e ∙ d ∙ here) w.values-is,
         ap listed w.list-is ∙ places_pass (cols_in c.args.sheet.now.nums.now) f k _ inv.1 (tested ∙ sym w.if-is_changed.ensures),
       )
     ]

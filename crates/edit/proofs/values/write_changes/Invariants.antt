@@ -1,5 +1,6 @@
 use Rattle.std.proofs.Common.{◌≡◌, vec_items}
 use Rattle.evaluate.specs.Values.{value_numbers}
+use Rattle.recalc.specs.Before.{row_shows}
 use Rattle.recalc.specs.Layout.{cols_in}
 use Rattle.recalc.proofs.Entries.{FilledTo}
 use Rattle.edit.specs.Places.{places_from}
@@ -11,4 +12,4 @@ use Rattle.edit.proofs.values.write_changes.Given as goal
 abbrev pub invariant-loop-k : goal.invariant-loop-k
 invariant-loop-k l =
     FilledTo (λ i. value_numbers (table_shows l.table i)) 2 l.initial.values l.k l.values
-    × (vec_items l.list.places ≡ places_from (cols_in l.sheet.nums.now) (table_differs l.table l.before) 0 l.k)
+    × (vec_items l.list.places ≡ places_from (cols_in l.sheet.nums.now) (table_differs l.table (row_shows l.initial.values)) 0 l.k)

@@ -1,15 +1,10 @@
 use Rattle.recalc.specs.Table.{Later}
 use Rattle.recalc.specs.Change.{toil}
-use Rattle.recalc.specs.Turns.{Going}
+use Rattle.recalc.specs.Turns.{on_stack, Going}
 use Rattle.recalc.proofs.recalculation.Recalculation.settle.Given as goal
 
-abbrev pub ghost-turn : goal.ghost-turn
-ghost-turn g a = g.written
-
 abbrev pub invariant-loop-k : goal.invariant-loop-k
-invariant-loop-k g l =
-    Going (g.F.Formulas.language l.formulas) l.initial.self.before.items g.written l.self
-    × Later l.initial.self.table.items l.self.table.items
+invariant-loop-k g l = Going l.initial.self l.self × Later l.initial.self.table.now l.self.table.now
 
 abbrev pub decreases-loop-k : goal.decreases-loop-k
-decreases-loop-k g l = toil l.self.table.items l.self.dirty.items l.self.stack.items
+decreases-loop-k g l = toil l.self.table.now l.self.marks.now (on_stack l.self)

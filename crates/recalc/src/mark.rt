@@ -1,0 +1,39 @@
+// What a change asks of a cell.
+ghost use Rattle.std.specs.Prelude.{◌≡◌};
+ghost use Rattle.recalc.specs.Marks.{is_marked, worked_out, mark_if};
+
+#[derive(Clone, Copy, Default)]
+pub enum Mark {
+    // Nothing, as far as is known.
+    #[default]
+    Clean,
+    // That it is worked out again.
+    Dirty,
+    // That was done.
+    Recalculated,
+}
+
+impl Mark {
+    // Of a cell that was written or was not.
+    pub fn written(is_written: bool) -> Mark
+        ensures { result ≡ mark_if is_written }
+    {
+        if is_written { Mark::Dirty } else { Mark::Clean }
+    }
+
+    pub fn is_marked(self) -> bool
+        ensures { result ≡ is_marked self }
+    {
+        !matches!(self, Mark::Clean)
+    }
+
+    // Once the cell is worked out.
+    pub fn worked_out(self) -> Mark
+        ensures { result ≡ worked_out self }
+    {
+        match self {
+            Mark::Clean => Mark::Clean,
+            Mark::Dirty | Mark::Recalculated => Mark::Recalculated,
+        }
+    }
+}
