@@ -41,7 +41,7 @@ known_of Waiting = None
 known_of (Open i) = None
 known_of (Known v) = Some v
 
--- what a table says that the cells of a sheet show
+-- what a table says that the cells of a sheet show; not `laid` with another value outside, since a size is all that is known here of the sheet
 abbrev pub laid_known : ℕ → ℕ → List Progress → ℕ → ℕ → Option Value
 laid_known h w t r c = cond (inside (record { rows = h; cols = w; cells = λ i j. None }) r c) (known_of (at t (r * w + c))) (Some Empty)
 
@@ -60,7 +60,7 @@ abbrev pub tried_cell : (ℕ → ℕ → Option Value) → Option Formula → Re
 tried_cell t None = Ok Empty
 tried_cell t (Some x) = tried (attempt t x)
 
--- the same as the engine has it
+-- the same as the engine has it; no map over results, since each case says in a word what it stands for
 abbrev pub as_attempt : Sheet → Result Value CellRef → Result Value ℕ
 as_attempt s (Ok v) = Ok v
 as_attempt s (Err q) = Err (number_of s q)

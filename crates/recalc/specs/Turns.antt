@@ -15,7 +15,7 @@ module _ {F B : Type 0} {f : formulas.Ghosts F} {b : before.Ghosts B} where
   change_of a = change (f.language a.formulas.now) (b.shows a.before.now) (b.written a.before.now)
 
   -- it is of the same cells, in the same memory
-  pub record Same (a a₁ : Recalculation F B f b) : Type 0 where
+  pub record SameMemory (a a₁ : Recalculation F B f b) : Type 0 where
     pub formulas : a₁.formulas ≡ a.formulas
     pub before : a₁.before ≡ a.before
     pub table : a₁.table.ghost_name ≡ a.table.ghost_name
@@ -23,10 +23,10 @@ module _ {F B : Type 0} {f : formulas.Ghosts F} {b : before.Ghosts B} where
 
   -- what a began is that far
   pub record Going (a a₁ : Recalculation F B f b) : Type 0 where
-    pub same : Same a a₁
+    pub same : SameMemory a a₁
     pub good : Good (change_of a) a₁.table.now a₁.kept.now a₁.marks.now (on_stack a₁)
 
   -- one turn
   pub record Turned (a a₁ : Recalculation F B f b) : Type 0 where
-    pub same : Same a a₁
+    pub same : SameMemory a a₁
     pub stepped : Stepped (change_of a) a.table.now a.marks.now (on_stack a) a₁.table.now a₁.kept.now a₁.marks.now (on_stack a₁)

@@ -36,12 +36,12 @@ struct Recalculation<'a, F: Formulas, B: Before> {
 }
 
 impl<'a, F: Formulas, B: Before> Recalculation<'a, F, B> {
-    ghost use Rattle.recalc.specs.Turns.{on_stack, change_of, Same, Going, Turned};
+    ghost use Rattle.recalc.specs.Turns.{on_stack, change_of, SameMemory, Going, Turned};
 
     // Notes v as what cell k shows, and also as kept if it is what the cell showed.
     fn note(&mut self, k: usize, v: Value)
         requires { k < (F.language self.old.formulas.now).count }
-        ensures same { Same self.old self.new }
+        ensures same { SameMemory self.old self.new }
         ensures table { self.new.table.now ≡ slice_set self.old.table.now k (Known v) }
         ensures kept { Kept (B.shows self.old.before.now) k v self.old.kept.now self.new.kept.now }
         ensures marks { self.new.marks.now ≡ self.old.marks.now }
@@ -57,7 +57,7 @@ impl<'a, F: Formulas, B: Before> Recalculation<'a, F, B> {
     fn open(&mut self, k: usize)
         requires within { k < (F.language self.old.formulas.now).count }
         requires room { length (on_stack self.old) < (F.language self.old.formulas.now).count }
-        ensures same { Same self.old self.new }
+        ensures same { SameMemory self.old self.new }
         ensures table { self.new.table.now ≡ slice_set self.old.table.now k (Open (length (on_stack self.old))) }
         ensures kept { self.new.kept.now ≡ self.old.kept.now }
         ensures marks { self.new.marks.now ≡ self.old.marks.now }
@@ -79,7 +79,7 @@ impl<'a, F: Formulas, B: Before> Recalculation<'a, F, B> {
     // Takes cell k, which is on top, off the stack: if it was marked, it is worked out.
     fn close(&mut self, k: usize)
         requires { k < (F.language self.old.formulas.now).count }
-        ensures same { Same self.old self.new }
+        ensures same { SameMemory self.old self.new }
         ensures table { self.new.table.now ≡ self.old.table.now }
         ensures kept { self.new.kept.now ≡ self.old.kept.now }
         ensures marks { self.new.marks.now ≡ slice_set self.old.marks.now k (worked_out (mark_at self.old.marks.now k)) }
@@ -92,7 +92,7 @@ impl<'a, F: Formulas, B: Before> Recalculation<'a, F, B> {
     // Marks cell k as dirty.
     fn mark(&mut self, k: usize)
         requires { k < (F.language self.old.formulas.now).count }
-        ensures same { Same self.old self.new }
+        ensures same { SameMemory self.old self.new }
         ensures table { self.new.table.now ≡ self.old.table.now }
         ensures kept { self.new.kept.now ≡ self.old.kept.now }
         ensures marks { self.new.marks.now ≡ slice_set self.old.marks.now k mark.Dirty }
@@ -167,7 +167,7 @@ impl<'a, F: Formulas, B: Before> Recalculation<'a, F, B> {
     fn visit_all(&mut self)
         requires going { Going self.old self.old }
         requires none { on_stack self.old ≡ [] }
-        ensures same { Same self.old self.new }
+        ensures same { SameMemory self.old self.new }
         ensures updated { Updated (change_of self.old) self.new.table.now self.new.marks.now }
     {
         // By number, since the lists change under the loop.

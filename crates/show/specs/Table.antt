@@ -36,6 +36,7 @@ abbrev pub padded : ℕ → List ℕ → List ℕ
 padded w t = replicate (w - length t) 32 ++ t
 
 -- w col is the width of a column
+-- as `spaced_entry` of Values with a width: one line each, and longer with what they share named
 abbrev pub aligned : List ℕ → ℕ → (ℕ → ℕ) → ℕ → ℕ → List ℕ
 aligned xs cols w line col = gap (codes "  ") col ++ padded (w col) (entry_text (table_entry xs cols line col))
 
