@@ -64,9 +64,8 @@ impl Changes {
         ensures changed { self.new.changed.places.items ≡ places_from (cols_in sheet.now.nums.now) (table_differs (take (count (sheet_in sheet.now.nums.now)) room.now.table) (row_shows values.old)) 0 (count (sheet_in sheet.now.nums.now)) }
         ensures recalculated { self.new.recalculated.places.items ≡ places_from (cols_in sheet.now.nums.now) (formula_marked sheet.now.nums.now (take (count (sheet_in sheet.now.nums.now)) room.now.marks)) 0 (count (sheet_in sheet.now.nums.now)) }
     {
-        let n = sheet.count();
         self.clear();
-        write_changes(sheet, room.table(n), values, &mut self.changed);
-        list_recalculated(sheet, room.marks(n), &mut self.recalculated);
+        write_changes(sheet, room.table(sheet), values, &mut self.changed);
+        list_recalculated(sheet, room.marks(sheet), &mut self.recalculated);
     }
 }

@@ -14,8 +14,7 @@ pub fn check_write(sheet: &LentSheet<'_>, write: Write<'_>) -> Result<(), Refusa
     if write.formula.is_some_and(|tokens| !is_formula(tokens)) {
         return Err(Refusal::Malformed(0));
     }
-    let size = sheet.size();
-    if write.place.row >= size.rows || write.place.col >= size.cols {
+    if !sheet.size().contains(write.place) {
         return Err(Refusal::Outside);
     }
     Ok(())

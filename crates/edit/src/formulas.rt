@@ -18,7 +18,7 @@ fn is_recalculated(sheet: &LentSheet<'_>, mark: Mark, k: usize) -> bool
     mark.is_marked() && matches!(sheet.cell(k), Cell::Formula(_))
 }
 
-// Lists the places that hold a formula and are marked.
+// Lists the places that hold a formula and are marked. The marks are lent and no room: that they are few is all that is asked of the rest.
 pub fn list_recalculated(sheet: &LentSheet<'_>, marks: &[Mark], list: &mut PlaceList)
     requires few { length marks.now ≤ max_cells }
     requires empty { list.old.places.items ≡ [] }

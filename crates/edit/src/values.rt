@@ -10,14 +10,7 @@ ghost use Rattle.edit.specs.Values.{table_differs};
 
 use crate::place_list::PlaceList;
 use evaluate::Value;
-use recalc::{LentSheet, Progress};
-
-// What the row says of cell k.
-fn value_at(values: &[u64], k: usize) -> Value
-    ensures { result ≡ row_shows values.now k }
-{
-    Value::read(values, k).unwrap_or(Value::Empty)
-}
+use recalc::{LentSheet, Progress, row_value};
 
 // A function of its own, so that the proof of the loop can name the test.
 fn is_changed(value: Value, before: Value) -> bool
@@ -41,8 +34,9 @@ pub fn write_changes(
     ensures values { values.new ≡ values_from (table_shows table.now) 0 (length table.now) ++ drop (2 * length table.now) values.old }
     ensures changed { list.new.places.items ≡ places_from (cols_in sheet.now.nums.now) (table_differs table.now (row_shows values.old)) 0 (length table.now) }
 {
+    // The row by number, as in `write_values` of recalc.
     for (k, progress) in table.iter().enumerate() {
-        let before = value_at(values, k);
+        let before = row_value(values, k);
         let value = progress.known_value();
         if is_changed(value, before) {
             value.write(values, k);

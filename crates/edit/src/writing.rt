@@ -12,17 +12,7 @@ use crate::changes::Changes;
 use crate::check::check_write;
 use crate::memory::put_cell;
 use crate::write::Write;
-use formula::CellRef;
 use recalc::{LentSheet, Overwritten, Refusal, Room, show_sheet};
-
-// Which cell of a sheet is at a place.
-fn target(nums: &[u64], place: CellRef) -> usize
-    requires sheet { is_ok (checked nums.now) ≡ true }
-    requires inside { inside (sheet_in nums.now) place.row place.col ≡ true }
-    ensures { result ≡ number_of (sheet_in nums.now) place }
-{
-    LentSheet::of(nums).number(place)
-}
 
 // A write that is not refused. The sheet and its row are lent apart: while it goes on, the row is not what the sheet shows. Room and lists too:
 // the caller reads the lists, and nobody the room.
@@ -39,7 +29,7 @@ fn write_inside(
     ensures wrote { WroteAsked write.entry (state nums.old values.old changes.old) (state nums.new values.new changes.new) }
     ensures ready { Ready (state nums.new values.new changes.new) }
 {
-    let cell = target(nums, write.place);
+    let cell = LentSheet::of(nums).number(write.place);
     put_cell(nums, cell, write.formula);
     let after = LentSheet::of(nums);
     room.recalculate(&after, &Overwritten { values, cell });

@@ -5,6 +5,7 @@ ghost use Rattle.evaluate.specs.Limits.{max_rows, max_columns};
 ghost use Rattle.evaluate.specs.Sheets.{Sheet};
 
 use crate::value::Value;
+use formula::CellRef;
 
 // Outside the sheet every cell is empty; of a cell that is None it is not known yet what it shows.
 pub trait Cells {
@@ -20,6 +21,6 @@ pub trait Cells {
         ensures few { result ≤ max_columns }
         ensures beside { (i j : ℕ) → result ≤ j → (sheet self.now).shown i j ≡ Some Empty };
 
-    fn at(&self, row: u64, col: u64) -> Option<Value>
-        ensures { result ≡ (sheet self.now).shown row col };
+    fn at(&self, place: CellRef) -> Option<Value>
+        ensures { result ≡ (sheet self.now).shown place.row place.col };
 }

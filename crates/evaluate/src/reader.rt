@@ -43,7 +43,7 @@ impl<'a, C: Cells, T: Trail> Reader<'a, C, T> {
         ensures { Reads C.sheet T.log (λ f. look f place (λ n. n)) result self.old self.new }
     {
         self.note(place);
-        number_in(place, self.cells.at(place.row, place.col))
+        number_in(place, self.cells.at(place))
     }
 
     pub fn into_trail(self) -> T

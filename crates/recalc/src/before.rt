@@ -37,7 +37,8 @@ impl Before for Unshown {
     }
 }
 
-// A list of values and one of marks; behind their ends nothing was shown and nothing is written.
+// A list of values and one of marks; behind their ends nothing was shown and nothing is written. Two lists and none of pairs, since who has
+// them has them so.
 #[derive(Clone, Copy)]
 pub struct Lists<'a> {
     pub values: &'a [Value],
@@ -58,7 +59,14 @@ impl<'a> Before for Lists<'a> {
     }
 }
 
-// A lent row of values, two numbers a cell, and the one cell that was overwritten since.
+// What a lent row of values, two numbers a cell, says of cell k; Empty behind its end.
+pub fn row_value(values: &[u64], k: usize) -> Value
+    ensures { result ≡ row_shows values.now k }
+{
+    Value::read(values, k).unwrap_or(Value::Empty)
+}
+
+// A lent row of values, and the one cell that was overwritten since.
 #[derive(Clone, Copy)]
 pub struct Overwritten<'a> {
     pub values: &'a [u64],
@@ -71,7 +79,7 @@ impl<'a> Before for Overwritten<'a> {
     ghost written = { λ b k. k == b.cell };
 
     fn value(&self, k: usize) -> Value {
-        Value::read(self.values, k).unwrap_or(Value::Empty)
+        row_value(self.values, k)
     }
 
     fn is_written(&self, k: usize) -> bool {

@@ -3,6 +3,7 @@ ghost use Rattle.recalc.specs.Filling.{in_table};
 
 use crate::filled::Filled;
 use evaluate::{Cells, Value};
+use formula::CellRef;
 
 impl<'a> Cells for Filled<'a> {
     ghost sheet = { λ s. record { height = s.size.rows; width = s.size.cols; shown = in_table s } };
@@ -15,10 +16,10 @@ impl<'a> Cells for Filled<'a> {
         self.size.cols
     }
 
-    fn at(&self, row: u64, col: u64) -> Option<Value> {
-        if row >= self.size.rows || col >= self.size.cols {
+    fn at(&self, place: CellRef) -> Option<Value> {
+        if !self.size.contains(place) {
             return Some(Value::Empty);
         }
-        self.table[(row * self.size.cols + col) as usize].value()
+        self.table[self.size.number(place)].value()
     }
 }

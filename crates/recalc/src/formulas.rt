@@ -8,9 +8,8 @@ ghost use Rattle.recalc.specs.Showing.{value_known};
 
 use evaluate::Value;
 
-#[derive(Clone, Copy, Default)]
+#[derive(Clone, Copy)]
 pub enum Progress {
-    #[default]
     Waiting,
     // On the stack, at this place.
     Open(usize),

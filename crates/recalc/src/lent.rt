@@ -63,7 +63,7 @@ impl<'a> LentSheet<'a> {
         ensures is { result ≡ count (sheet_in self.now.nums.now) }
         ensures few { result ≤ max_cells }
     {
-        (self.size.rows * self.size.cols) as usize
+        self.size.cells()
     }
 
     // Cell k, in reading order.
@@ -77,10 +77,7 @@ impl<'a> LentSheet<'a> {
     pub fn place(&self, k: usize) -> CellRef
         ensures { result ≡ by_number (cols_in self.now.nums.now) the_ref k }
     {
-        CellRef {
-            row: k as u64 / self.size.cols,
-            col: k as u64 % self.size.cols,
-        }
+        self.size.place(k)
     }
 
     // Which cell is at a place.
@@ -88,7 +85,7 @@ impl<'a> LentSheet<'a> {
         requires { inside (sheet_in self.now.nums.now) place.row place.col ≡ true }
         ensures { result ≡ number_of (sheet_in self.now.nums.now) place }
     {
-        (place.row * self.size.cols + place.col) as usize
+        self.size.number(place)
     }
 
     // The formula of cell k, which is well formed as each cell is; None if the cell is blank.

@@ -17,7 +17,7 @@ mod show;
 mod size;
 mod theory;
 
-pub use before::{Before, Lists, Overwritten, Unshown};
+pub use before::{Before, Lists, Overwritten, Unshown, row_value};
 pub use formulas::{Formulas, Progress};
 pub use laws::{cycles_are_exact, only_answer, shown_agrees_with_itself, stair_shows};
 pub use lent::LentSheet;

@@ -2,10 +2,9 @@
 ghost use Rattle.std.specs.Prelude.{◌≡◌};
 ghost use Rattle.recalc.specs.Marks.{is_marked, worked_out, mark_if};
 
-#[derive(Clone, Copy, Default)]
+#[derive(Clone, Copy, PartialEq, Eq)]
 pub enum Mark {
     // Nothing, as far as is known.
-    #[default]
     Clean,
     // That it is worked out again.
     Dirty,
@@ -14,17 +13,10 @@ pub enum Mark {
 }
 
 impl Mark {
-    // Of a cell that was written or was not.
-    pub fn written(is_written: bool) -> Mark
-        ensures { result ≡ mark_if is_written }
-    {
-        if is_written { Mark::Dirty } else { Mark::Clean }
-    }
-
     pub fn is_marked(self) -> bool
         ensures { result ≡ is_marked self }
     {
-        !matches!(self, Mark::Clean)
+        self != Mark::Clean
     }
 
     // Once the cell is worked out.
@@ -35,5 +27,14 @@ impl Mark {
             Mark::Clean => Mark::Clean,
             Mark::Dirty | Mark::Recalculated => Mark::Recalculated,
         }
+    }
+}
+
+// Of a cell that was written or was not.
+impl From<bool> for Mark {
+    ghost from_gives = { λ is_written mark. mark ≡ mark_if is_written };
+
+    fn from(is_written: bool) -> Mark {
+        if is_written { Mark::Dirty } else { Mark::Clean }
     }
 }

@@ -35,6 +35,8 @@ struct Recalculation<'a, F: Formulas, B: Before> {
     ghost deep: { depth ≤ length stack.now },
 }
 
+// That k is a cell is asked of each step: a type of such numbers would be made anew for each, and the lists are as long as they are by the
+// ghost fields. What holds from turn to turn is no ghost field, since the steps of a turn break it on the way.
 impl<'a, F: Formulas, B: Before> Recalculation<'a, F, B> {
     ghost use Rattle.recalc.specs.Turns.{on_stack, change_of, SameMemory, Going, Turned};
 
@@ -101,6 +103,20 @@ impl<'a, F: Formulas, B: Before> Recalculation<'a, F, B> {
         self.marks[k] = Mark::Dirty;
     }
 
+    // What cell k is worked out from: all that is known if it is marked, and else the cells alone that show what they showed.
+    fn known(&self, k: usize) -> &[Progress]
+        requires { k < (F.language self.now.formulas.now).count }
+        ensures size { length result.now ≡ (F.language self.now.formulas.now).count }
+        ensures all { flag self.now.marks.now k ≡ true → result.now ≡ self.now.table.now }
+        ensures same { flag self.now.marks.now k ≡ false → result.now ≡ self.now.kept.now }
+    {
+        if self.marks[k].is_marked() {
+            self.table
+        } else {
+            self.kept
+        }
+    }
+
     // Cell k from what is known if it is marked, and else from the cells alone that show what they showed. None is worked out again that was.
     fn attempt(&self, k: usize) -> Result<Value, usize>
         requires within { k < (F.language self.now.formulas.now).count }
@@ -109,11 +125,7 @@ impl<'a, F: Formulas, B: Before> Recalculation<'a, F, B> {
         ensures all { flag self.now.marks.now k ≡ true → (s : ℕ → Value) → Right s self.now.table.now → Answers ((F.language self.now.formulas.now).work s k) ((F.language self.now.formulas.now).looks s k) self.now.table.now result }
         ensures same { flag self.now.marks.now k ≡ false → (s : ℕ → Value) → Right s self.now.kept.now → Answers ((F.language self.now.formulas.now).work s k) ((F.language self.now.formulas.now).looks s k) self.now.kept.now result }
     {
-        if self.marks[k].is_marked() {
-            self.formulas.attempt(k, self.table)
-        } else {
-            self.formulas.attempt(k, self.kept)
-        }
+        self.formulas.attempt(k, self.known(k))
     }
 
     // One turn at the cell k on top of the stack.
@@ -189,7 +201,7 @@ fn mark_written<B: Before>(before: &B, marks: &mut [Mark])
     ensures { (k : ℕ) → k < length marks.old → mark_at marks.new k ≡ mark_if (B.written before.now k) }
 {
     for (k, mark) in marks.iter_mut().enumerate() {
-        *mark = Mark::written(before.is_written(k));
+        *mark = before.is_written(k).into();
     }
 }
 

@@ -1,6 +1,5 @@
 // Room for recalculations of a sheet.
-ghost use Rattle.std.specs.Prelude.{◌≡◌, ◌≤◌, length, take};
-ghost use Rattle.evaluate.specs.Limits.{max_cells};
+ghost use Rattle.std.specs.Prelude.{◌≡◌, take};
 ghost use Rattle.recalc.specs.Change.{change, Updated};
 ghost use Rattle.recalc.specs.Sheets.{sheet_in};
 ghost use Rattle.recalc.specs.Numbered.{count, sheet_language};
@@ -51,19 +50,17 @@ impl Room {
         );
     }
 
-    // What each of the first n cells shows.
-    pub fn table(&self, n: usize) -> &[Progress]
-        requires { n ≤ max_cells }
-        ensures { result.now ≡ take n self.now.table }
+    // What each cell of the sheet shows.
+    pub fn table(&self, sheet: &LentSheet<'_>) -> &[Progress]
+        ensures { result.now ≡ take (count (sheet_in sheet.now.nums.now)) self.now.table }
     {
-        &self.table[..n]
+        &self.table[..sheet.count()]
     }
 
     // Which of them were worked out again.
-    pub fn marks(&self, n: usize) -> &[Mark]
-        requires { n ≤ max_cells }
-        ensures { result.now ≡ take n self.now.marks }
+    pub fn marks(&self, sheet: &LentSheet<'_>) -> &[Mark]
+        ensures { result.now ≡ take (count (sheet_in sheet.now.nums.now)) self.now.marks }
     {
-        &self.marks[..n]
+        &self.marks[..sheet.count()]
     }
 }

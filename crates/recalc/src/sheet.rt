@@ -68,14 +68,15 @@ pub fn check_sheet(nums: &[u64]) -> Result<Size, Refusal>
     if !is_within(cols, MAX_COLUMNS) {
         return Err(Refusal::Columns);
     }
-    let count = (rows * cols) as usize;
+    let size = Size { rows, cols };
+    let count = size.cells();
     if nums.len() < HEADER_LEN + CELL_LEN * count {
         return Err(Refusal::Short(nums.len()));
     }
     if let Some(index) = first_malformed_cell(nums, count) {
         return Err(Refusal::Malformed(index));
     }
-    Ok(Size { rows, cols })
+    Ok(size)
 }
 
 // The same of a sheet that may come to have as many rows and columns as `most` says, in a memory that has to have room for that.
@@ -88,7 +89,7 @@ pub fn check_fitting(nums: &[u64], most: Size) -> Result<Size, Refusal>
     if !is_within(most.cols, MAX_COLUMNS) || !is_within(number_at(nums, 1), most.cols) {
         return Err(Refusal::Columns);
     }
-    if nums.len() < HEADER_LEN + CELL_LEN * (most.rows * most.cols) as usize {
+    if nums.len() < HEADER_LEN + CELL_LEN * most.cells() {
         return Err(Refusal::Short(nums.len()));
     }
     check_sheet(nums)

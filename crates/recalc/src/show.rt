@@ -29,7 +29,7 @@ impl LentSheet<'_> {
     {
         let mut room = Room::new();
         room.recalculate(self, &Unshown);
-        write_values(room.table(self.count()), out);
+        write_values(room.table(self), out);
     }
 }
 

@@ -71,15 +71,15 @@ shown_beside a Delete p s t = show_alike a p n (without a p s) (shifted d s) pai
         (λ v w b c between x. sym (cell_alike d v w between x)))
 
 -- where a line may be inserted and there may be fewer than 2 ^ 64
-insert_takes : (p n m : ℕ) → m < 2 ^ 64 → line_allowed Insert p n m ≡ Ok tt → Takes Insert p n
+pub insert_takes : (p n m : ℕ) → m < 2 ^ 64 → line_allowed Insert p n m ≡ Ok tt → Takes Insert p n
 insert_takes p n m h e = (grind (arith, nat_tests), grind (arith, nat_tests))
 
 -- where a line may be deleted
-delete_takes : (p n m : ℕ) → line_allowed Delete p n m ≡ Ok tt → Takes Delete p n
+pub delete_takes : (p n m : ℕ) → line_allowed Delete p n m ≡ Ok tt → Takes Delete p n
 delete_takes p n m e = grind (arith, nat_tests)
 
 -- the rows or the columns may be fewer than that
-fewer : (a : Axis) (most : Size) → most.rows < 2 ^ 64 → most.cols < 2 ^ 64 → by_axis a most.rows most.cols < 2 ^ 64
+pub fewer : (a : Axis) (most : Size) → most.rows < 2 ^ 64 → most.cols < 2 ^ 64 → by_axis a most.rows most.cols < 2 ^ 64
 fewer Row most h k = h
 fewer Column most h k = k
 

@@ -19,13 +19,6 @@ pub struct Reshape {
     pub ghost shiftable: { Shiftable shift size } by { Shiftable-prop shift size },
 }
 
-fn cells(size: Size) -> usize
-    requires { cells_of size ≤ max_cells }
-    ensures { result ≡ cells_of size }
-{
-    (size.rows * size.cols) as usize
-}
-
 impl Reshape {
     // How large the grid is afterwards.
     pub fn size_after(self) -> Size
@@ -43,14 +36,14 @@ impl Reshape {
     pub(crate) fn entries_after(self) -> usize
         ensures { (result ≡ cells_of (size_after self.shift self.size)) × (result ≤ max_cells) }
     {
-        cells(self.size_after())
+        self.size_after().cells()
     }
 
     // How many there are before or afterwards, whichever is more.
     pub(crate) fn most_entries(self) -> usize
         ensures { (result ≡ max (cells_of self.size) (cells_of (size_after self.shift self.size))) × (result ≤ max_cells) }
     {
-        cells(self.size).max(self.entries_after())
+        self.size.cells().max(self.entries_after())
     }
 
     // The first entry of the line: those before it stay where they are.
@@ -85,12 +78,8 @@ impl Reshape {
         requires { k < cells_of (size_after self.shift self.size) }
         ensures { result ≡ origin self.shift self.size k }
     {
-        let cols = self.size_after().cols as usize;
-        let from = self.place_before(CellRef {
-            row: (k / cols) as u64,
-            col: (k % cols) as u64,
-        })?;
-        Some((from.row * self.size.cols + from.col) as usize)
+        let from = self.place_before(self.size_after().place(k))?;
+        Some(self.size.number(from))
     }
 
     // As `origin`, with the entries counted from the first of the line on.

@@ -3,6 +3,7 @@ ghost use Rattle.std.specs.Prelude.{◌+◌, ◌*◌, ◌&&◌, if◌then◌else
 ghost use Rattle.evaluate.specs.declared.value.Value.TheVariants.{Empty};
 
 use evaluate::{CellError, Cells, Value};
+use formula::CellRef;
 
 // Three rows of three; of a cell that is None nothing is known.
 #[derive(Drop)]
@@ -21,11 +22,11 @@ impl Cells for Grid {
         3
     }
 
-    fn at(&self, row: u64, col: u64) -> Option<Value> {
-        if row >= 3 || col >= 3 {
+    fn at(&self, place: CellRef) -> Option<Value> {
+        if place.row >= 3 || place.col >= 3 {
             return Some(Value::Empty);
         }
-        self.values[(3 * row + col) as usize]
+        self.values[(3 * place.row + place.col) as usize]
     }
 }
 

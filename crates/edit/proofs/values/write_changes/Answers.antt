@@ -36,8 +36,8 @@ loop-k-preserved c =
     let inv = c.loop-k.invariant in
     let listed : PlaceList → List CellRef = λ x. vec_items x.places in
     let e = c.known_value-value.ensures in
-    let here = c.value_at-before.ensures ∙ still_shows t xs k c.loop-k.values n c.loop-k-test.true c.requires.shown inv.0 in
-    let tested : f k ≡ differs c.known_value-value.result c.value_at-before.result = ap (λ v. differs v (old k)) (sym e) ∙ ap (differs c.known_value-value.result) (sym here) in
+    let here = c.row_value-before.ensures ∙ still_shows t xs k c.loop-k.values n c.loop-k-test.true c.requires.shown inv.0 in
+    let tested : f k ≡ differs c.known_value-value.result c.row_value-before.result = ap (λ v. differs v (old k)) (sym e) ∙ ap (differs c.known_value-value.result) (sym here) in
     elim c.if-is_changed.branch [
       | then-is_changed w ↦ (
         value_written t xs k c.loop-k.values _ n c.loop-k-test.true inv.0 (w.values-is ∙ w.write.ensures ∙ ap (with_value c.loop-k.values k) e),

@@ -1,4 +1,4 @@
-use Rattle.std.proofs.Common.{◌≡◌, ◌*◌, ◌≤◌, eqb, ◌++◌, length, take, drop, is_ok, sym, ap, ◌∙◌, subst}
+use Rattle.std.proofs.Common.{◌≡◌, ◌+◌, ◌*◌, ◌≤◌, eqb, ◌++◌, length, take, drop, is_ok, sym, ap, ◌∙◌, subst}
 use Rattle.recalc.specs.Before.{row_shows}
 use Rattle.recalc.specs.Layout.{cols_in}
 use Rattle.recalc.specs.Numbered.{count, sheet_language}
@@ -12,7 +12,7 @@ use Rattle.edit.proofs.Inside.{allowed_is, ok_is, values_room, cell_room, still_
 use Rattle.edit.proofs.writing.write_inside.Goals as goal
 
 pub put_cell-requires : goal.put_cell-requires
-put_cell-requires c = cell_room c.args.write c.args.nums.now c.args.values.now c.target-cell.result c.requires.sheet c.target-cell.ensures c.requires.allowed
+put_cell-requires c = cell_room c.args.write c.args.nums.now c.args.values.now c.number-cell.result c.requires.sheet (c.number-cell.ensures ∙ ap (λ ys. c.args.write.place.row * cols_in ys + c.args.write.place.col) c.of.ensures) c.requires.allowed
 
 pub of-after-requires : goal.of-after-requires
 of-after-requires c =
@@ -20,15 +20,15 @@ of-after-requires c =
     let xs = c.args.nums.now in
     let v = ok_is (allowed w (sheet_in xs)) c.requires.allowed in
     let a = allowed_is w (sheet_in xs) v.0 v.1 in
-    still_ok w xs c.args.values.now c.target-cell.result c.requires.sheet c.target-cell.ensures v.0 a c.put_cell.new.nums c.put_cell.ensures
+    still_ok w xs c.args.values.now c.number-cell.result c.requires.sheet (c.number-cell.ensures ∙ ap (λ ys. c.args.write.place.row * cols_in ys + c.args.write.place.col) c.of.ensures) v.0 a c.put_cell.new.nums c.put_cell.ensures
 
 pub tell-requires-clause-room : goal.tell-requires-clause-room
 tell-requires-clause-room c =
     let w = c.args.write in
     let xs = c.args.nums.now in
     let vs = c.args.values.now in
-    let k = c.target-cell.result in
-    let at = c.target-cell.ensures in
+    let k = c.number-cell.result in
+    let at = (c.number-cell.ensures ∙ ap (λ ys. c.args.write.place.row * cols_in ys + c.args.write.place.col) c.of.ensures) in
     let v = ok_is (allowed w (sheet_in xs)) c.requires.allowed in
     let a = allowed_is w (sheet_in xs) v.0 v.1 in
     let same = count_now w xs vs k c.requires.sheet at v.0 a c.put_cell.new.nums c.put_cell.ensures ∙ ap (λ ys. count (sheet_in ys)) (sym c.of-after.ensures) in
@@ -39,8 +39,8 @@ tell-requires-clause-shown c =
     let w = c.args.write in
     let xs = c.args.nums.now in
     let vs = c.args.values.now in
-    let k = c.target-cell.result in
-    let at = c.target-cell.ensures in
+    let k = c.number-cell.result in
+    let at = (c.number-cell.ensures ∙ ap (λ ys. c.args.write.place.row * cols_in ys + c.args.write.place.col) c.of.ensures) in
     let v = ok_is (allowed w (sheet_in xs)) c.requires.allowed in
     let a = allowed_is w (sheet_in xs) v.0 v.1 in
     let same = count_now w xs vs k c.requires.sheet at v.0 a c.put_cell.new.nums c.put_cell.ensures ∙ ap (λ ys. count (sheet_in ys)) (sym c.of-after.ensures) in
@@ -52,8 +52,8 @@ returns-clause-wrote c v e =
     let w = c.args.write in
     let xs = c.args.nums.now in
     let vs = c.args.values.now in
-    let k = c.target-cell.result in
-    let at = c.target-cell.ensures in
+    let k = c.number-cell.result in
+    let at = (c.number-cell.ensures ∙ ap (λ ys. c.args.write.place.row * cols_in ys + c.args.write.place.col) c.of.ensures) in
     let ys = c.put_cell.new.nums in
     let zs = c.of-after.result.nums.now in
     let a = allowed_is w (sheet_in xs) v e in

@@ -8,7 +8,7 @@ use Rattle.recalc.proofs.lent.LentSheet.show.Goals as goal
 pub write_values-requires : goal.write_values-requires
 write_values-requires c =
     let t = c.recalculate.new.self.table in
-    omega (arith, c.requires, ap length (c.table.ensures ∙ ap (λ n. take n t) c.count.ensures.is) ∙ c.recalculate.ensures.size)
+    omega (arith, c.requires, ap length c.table.ensures ∙ c.recalculate.ensures.size)
 
 pub returns : goal.returns
 returns c =
@@ -16,4 +16,4 @@ returns c =
     let s = sheet_in c.args.self.now.nums.now in
     let t = c.recalculate.new.self.table in
     row_shown s (take (count s) t) c.args.out.now c.write_values.new.out u.size u.known
-    (c.write_values.ensures ∙ ap (λ ps. table_numbers ps ++ drop (2 * length ps) c.args.out.now) (c.table.ensures ∙ ap (λ n. take n t) c.count.ensures.is))
+    (c.write_values.ensures ∙ ap (λ ps. table_numbers ps ++ drop (2 * length ps) c.args.out.now) c.table.ensures)
