@@ -22,7 +22,8 @@ fn gap(between: &str, col: u64) -> &str
     if col == 0 { "" } else { between }
 }
 
-// Fields of its own: tried a `&Lines` in place of three, and the loop of `Lines` got no generated proof.
+// Fields of its own: tried a `&Lines` in place of three, and the loop of `Lines` got no generated proof. Rows and columns apart, here and
+// below, and no CellRef or Size: they are what the loops count.
 #[derive(Clone, Copy)]
 struct Row<'a, G> {
     grid: &'a G,

@@ -1,4 +1,4 @@
-// Examples: formulas read, written as text and worked out, whole sheets shown, rows and columns that come and go, and writes.
+// Examples: formulas read, written as text and worked out, whole sheets shown, rows and columns that come and go, writes, and writes carried over them.
 #![tactic(auto)]
 
 #[cfg(test)]
@@ -9,6 +9,8 @@ mod grid;
 mod places;
 #[cfg(test)]
 mod reading;
+#[cfg(test)]
+mod rebasing;
 #[cfg(test)]
 mod recalculating;
 #[cfg(test)]

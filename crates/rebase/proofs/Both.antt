@@ -1,0 +1,63 @@
+-- Writes and a shift that were made apart, in either order. Assumes nothing.
+use Rattle.std.proofs.Common.{◌≡◌, ℕ, ◌^◌, ◌<◌, List, [], ◌∷◌, refl, subst, ◌∙◌, Ok}
+use Rattle.recalc.specs.declared.size.Size.{Size}
+use Rattle.recalc.specs.Sheets.{Sheet, sheet_in, Same}
+use Rattle.recalc.proofs.Shown.{same_shown}
+use Rattle.shift.specs.declared.shift.Change.{Change}
+use Rattle.shift.specs.declared.shift.Change.TheVariants.{Insert, Delete}
+use Rattle.shift.specs.declared.shift.Shift.{Shift}
+use Rattle.shift.specs.Shifts.{by_axis, row_to, col_to, rows_after, cols_after}
+use Rattle.shift.specs.Sheets.{shifted, line_allowed, Allowed}
+use Rattle.shift.proofs.Held.{Takes, lines}
+use Rattle.shift.proofs.Kept.{insert_takes, delete_takes, fewer, insertion_keeps, deletion_blanks}
+use Rattle.edit.specs.declared.write.Write as code
+use Rattle.edit.specs.Writes.{Write, written}
+use Rattle.rebase.specs.Carried.{all_written, carried, accepted}
+use Rattle.rebase.specs.Promise.{Together, BroughtTogether}
+use Rattle.rebase.specs.Rows.{sheet_rebased}
+use Rattle.rebase.proofs.Carrying.{all_carried, same_trans}
+use Rattle.rebase.proofs.InRow.{row_same, row_is}
+
+-- a shift that is not refused has its line
+pub allowed_takes : (most : Size) → most.rows < 2 ^ 64 → most.cols < 2 ^ 64 → (s : Sheet) (d : Shift) → Allowed d s most → Takes d.change d.line (lines d.axis s)
+allowed_takes most u v s d ok = go d.change ok
+  where
+    go : (h : Change) → line_allowed h d.line (lines d.axis s) (by_axis d.axis most.rows most.cols) ≡ Ok tt → Takes h d.line (lines d.axis s)
+    go Insert e = insert_takes d.line (lines d.axis s) (by_axis d.axis most.rows most.cols) (fewer d.axis most u v) e
+    go Delete e = delete_takes d.line (lines d.axis s) (by_axis d.axis most.rows most.cols) e
+
+-- and is not refused after writes
+still_allowed : (most : Size) (d : Shift) (ws : List Write) (s : Sheet) → Allowed d s most → Allowed d (all_written ws s) most
+unfolding all_written
+still_allowed most d [] s ok = ok
+still_allowed most d (w ∷ ws) s ok = still_allowed most d ws (written w s) ok
+
+-- a sheet that holds the same as the shifted one is what comes of both
+pub together : (most : Size) → most.rows < 2 ^ 64 → most.cols < 2 ^ 64 → (s : Sheet) (d : Shift) (ws : List Write) → Allowed d s most
+    → (t : Sheet) → Same t (all_written (carried d ws) (shifted d s)) → Together d ws s t
+together most u v s d ws ok t e =
+    let same = same_trans e (all_carried d.axis d.change d.line ws s (allowed_takes most u v s d ok)) in
+    let one = same_shown t (shifted d (all_written ws s)) same in
+    let then = still_allowed most d ws s ok in
+    record {
+      same = same;
+      shows = one;
+      inserted = λ b r c. one (row_to d r) (col_to d c) ∙ (insertion_keeps most u v (all_written ws s) d b then).0 r c;
+      new = λ b r c w. one r c ∙ (insertion_keeps most u v (all_written ws s) d b then).1 r c w;
+      deleted = λ b r c w. one (row_to d r) (col_to d c) ∙ deletion_blanks most (all_written ws s) d b then r c w;
+    }
+
+-- how large the shifted sheet is
+shifted_rows : (d : Shift) (s : Sheet) → (shifted d s).rows ≡ rows_after d s.rows
+unfolding shifted
+shifted_rows d s = refl
+
+shifted_cols : (d : Shift) (s : Sheet) → (shifted d s).cols ≡ cols_after d s.cols
+unfolding shifted
+shifted_cols d s = refl
+
+-- what a row of carried writes leaves, where it was another sheet that was shifted
+pub brought_together : (d : Shift) (ws : List code.Write) (xs ys : List ℕ) → Same (sheet_in ys) (sheet_rebased d ws (sheet_in xs)) → BroughtTogether d ws xs ys
+brought_together d ws xs ys h most u v s ok e =
+    let row = row_is d s (allowed_takes most u v s d ok) ws (shifted d s) (shifted_rows d s) (shifted_cols d s) in
+    together most u v s d (accepted ws s) ok (sheet_in ys) (subst (Same (sheet_in ys)) row (same_trans h (row_same d ws (sheet_in xs) (shifted d s) e)))

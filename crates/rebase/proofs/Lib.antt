@@ -1,0 +1,4 @@
+pub mod Carrying
+pub mod Both
+pub mod Doing
+pub mod InRow

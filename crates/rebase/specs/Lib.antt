@@ -1,0 +1,4 @@
+pub mod Carried
+pub mod Rebased
+pub mod Rows
+pub mod Promise

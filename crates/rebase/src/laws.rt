@@ -1,0 +1,7 @@
+// What is promised of writes and a shift that were made apart; each function stands for theorems.
+ghost use Rattle.rebase.specs.Promise.{EitherFirst};
+
+// The shift and then the carried writes come to the same as the writes and then the shift.
+pub fn either_first()
+    ensures { EitherFirst }
+{}
