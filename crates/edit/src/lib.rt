@@ -14,6 +14,7 @@ mod write;
 mod writing;
 
 pub use changes::Changes;
+pub use check::check_write;
 pub use laws::{not_worked_stays, stair_writes, told_exactly, worked_exactly};
 pub use recalc::Room;
 pub use shown_sheet::ShownSheet;

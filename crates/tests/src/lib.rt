@@ -1,4 +1,5 @@
-// Examples: formulas read, written as text and worked out, whole sheets shown, rows and columns that come and go, writes, and writes carried over them.
+// Examples: formulas read, written as text and worked out, whole sheets shown, rows and columns that come and go, writes, writes carried over
+// them, undo and redo.
 #![tactic(auto)]
 
 #[cfg(test)]
@@ -17,5 +18,7 @@ mod recalculating;
 mod shifting;
 #[cfg(test)]
 mod showing;
+#[cfg(test)]
+mod undoing;
 #[cfg(test)]
 mod working;

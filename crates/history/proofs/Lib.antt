@@ -1,0 +1,4 @@
+pub mod Rings
+pub mod Slots
+pub mod Moves
+pub mod Times

@@ -1,0 +1,3 @@
+pub mod Ring
+pub mod Kept
+pub mod Laws
