@@ -9,16 +9,34 @@ use crate::quote::{prices, typed};
 use crate::tablet::Tablet;
 use anyhow::anyhow;
 use edit::Write;
+use evaluate::Value;
 use rebase::Rebased;
 use recalc::Refusal;
+use std::alloc::AllocError;
 
 // The prices, and then the row.
-fn prices_first(tablet: &mut Tablet, writes: &[Write<'_>]) -> Result<u64, Refusal> {
+fn prices_first(tablet: &mut Tablet, writes: &[Write<'_>]) -> Result<(), Refusal> {
     for write in writes {
         tablet.write(*write)?;
     }
+    tablet.insert_row()
+}
+
+// The row, and then the prices of the other tablet.
+fn row_first(
+    tablet: &mut Tablet,
+    writes: &[Write<'_>],
+    answers: &mut Vec<Result<Rebased, Refusal>>,
+) -> Result<Result<(), AllocError>, Refusal> {
     tablet.insert_row()?;
-    tablet.total()
+    tablet.take_over(writes, answers)
+}
+
+fn quoted(tablet: &mut Tablet) -> anyhow::Result<u64> {
+    match tablet.total() {
+        Ok(Value::Number(total)) => Ok(total),
+        _ => Err(anyhow!("the total is no number")),
+    }
 }
 
 fn main(rt: HostRuntime) -> anyhow::Result<()> {
@@ -26,17 +44,14 @@ fn main(rt: HostRuntime) -> anyhow::Result<()> {
     let prices = prices();
     let writes = typed(heap, &prices)?;
     let mut one = Tablet::new(heap)?;
-    let Ok(total) = prices_first(&mut one, writes.as_slice()) else {
-        return Err(anyhow!("the quote is refused"));
+    let Ok(()) = prices_first(&mut one, writes.as_slice()) else {
+        return Err(anyhow!("a price or the row is refused"));
     };
-    println!(rt; "prices first: the quote is {total}")?;
+    println!(rt; "prices first: the quote is {}", quoted(&mut one)?)?;
     let mut other = Tablet::new(heap)?;
     let mut answers = Vec::new(heap);
-    let Ok(()) = other.insert_row() else {
-        return Err(anyhow!("the row is refused"));
-    };
-    let Ok(done) = other.take_over(writes.as_slice(), &mut answers) else {
-        return Err(anyhow!("the prices are refused"));
+    let Ok(done) = row_first(&mut other, writes.as_slice(), &mut answers) else {
+        return Err(anyhow!("the row or the prices are refused"));
     };
     done?;
     let written = answers
@@ -45,19 +60,13 @@ fn main(rt: HostRuntime) -> anyhow::Result<()> {
         .count();
     println!(rt;
         "row first: {written} written, the quote is {}",
-        other.total().unwrap_or(0)
+        quoted(&mut other)?
     )?;
     let same = one.sheet() == other.sheet();
     println!(rt; "{}", if same { "the same" } else { "not the same" })?;
     let undone = other.undo();
-    println!(rt;
-        "undone: {undone}, the quote is {}",
-        other.total().unwrap_or(0)
-    )?;
+    println!(rt; "undone: {undone}, the quote is {}", quoted(&mut other)?)?;
     let redone = other.redo();
-    println!(rt;
-        "redone: {redone}, the quote is {}",
-        other.total().unwrap_or(0)
-    )?;
+    println!(rt; "redone: {redone}, the quote is {}", quoted(&mut other)?)?;
     Ok(())
 }

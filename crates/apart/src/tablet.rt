@@ -4,9 +4,10 @@ ghost use Rattle.history.specs.Kept.{Roomy};
 
 use crate::quote::{COLS, ROWS, quote};
 use edit::{Changes, Room, ShownSheet, Write, check_write, write_shown};
+use evaluate::Value;
 use history::History;
 use rebase::{Rebased, rebase_all};
-use recalc::{LentSheet, Refusal, Size, show_sheet};
+use recalc::{LentSheet, Refusal, Size, row_value, show_sheet};
 use shift::{Axis, Change, Shift, shift_sheet};
 use std::alloc::{AllocError, Global};
 
@@ -72,12 +73,12 @@ impl Tablet {
     }
 
     // What the last cell of the quote shows, which is its total.
-    pub fn total(&mut self) -> Result<u64, Refusal> {
+    pub fn total(&mut self) -> Result<Value, Refusal> {
         let start = self.history.start();
         let nums = &self.memory.as_slice()[start..start + WIDTH];
-        show_sheet(nums, self.values.as_mut_slice())?;
-        let last = 2 * LentSheet::check(nums)?.count();
-        Ok(self.values.iter().take(last).copied().last().unwrap_or(0))
+        let values = self.values.as_mut_slice();
+        show_sheet(nums, values)?;
+        Ok(row_value(values, LentSheet::check(nums)?.count().saturating_sub(1)))
     }
 
     // Whether it is refused is asked before the state is copied: a refused command keeps all that could be undone.
@@ -105,12 +106,14 @@ impl Tablet {
         Ok(())
     }
 
-    // Writes of another tablet, which knew nothing of the row, as one step: what became of each is added to `answers`.
+    // Writes of another tablet, which knew nothing of the row, as one step: what became of each is added to `answers`. Where there is no
+    // memory for these, nothing was written, and there is no step.
     pub fn take_over(
         &mut self,
         writes: &[Write<'_>],
         answers: &mut Vec<Result<Rebased, Refusal>>,
     ) -> Result<Result<(), AllocError>, Refusal> {
+        LentSheet::check(self.sheet())?;
         let next = self.history.prepare(self.memory.as_mut_slice());
         let nums = &mut self.memory.as_mut_slice()[next..next + WIDTH];
         let values = self.values.as_mut_slice();
@@ -122,7 +125,9 @@ impl Tablet {
             &mut self.changes,
             answers,
         )?;
-        self.history.advance();
+        if done.is_ok() {
+            self.history.advance();
+        }
         Ok(done)
     }
 

@@ -1,8 +1,8 @@
 -- Undoing and redoing many times. Assumes nothing.
 use Rattle.std.proofs.Common.{◌≡◌, ℕ, zero, suc, ◌-◌, ◌≤◌, ◌++◌, List, [], ◌∷◌, length, take, refl, sym, ap, ◌∙◌, arith}
 use Rattle.std.proofs.lemmas.List.{append-nil, take-take}
-use Rattle.history.specs.Kept.{Kept, moved_on, undone_to, undone, redone_to, redone}
-use Rattle.history.specs.Laws.{moved_all, undone_times, redone_times, FirstComesBack, LastComesBack, UndoneAgain}
+use Rattle.history.specs.Kept.{Kept, advanced, undone_to, undone, redone_to, redone}
+use Rattle.history.specs.Laws.{advanced_all, undone_times, redone_times, FirstComesBack, LastComesBack, UndoneAgain}
 
 -- where something was undone, redoing it brings it back
 redo_undo : (b : Kept) (ss : List (List ℕ)) → b.past ≡ ss → 1 ≤ length ss → redone (undone_to ss b) ≡ b
@@ -44,9 +44,9 @@ abbrev with_later : Kept → List (List ℕ) → Kept
 with_later b later = record { current = b.current; past = b.past; to_come = later; steps = b.steps }
 
 -- after a change nothing can be
-none_later : (b : Kept) (s : List ℕ) (ss : List (List ℕ)) → (moved_all b (s ∷ ss)).to_come ≡ []
+none_later : (b : Kept) (s : List ℕ) (ss : List (List ℕ)) → (advanced_all b (s ∷ ss)).to_come ≡ []
 none_later b s [] = refl
-none_later b s (t ∷ ss) = none_later (moved_on b s) t ss
+none_later b s (t ∷ ss) = none_later (advanced b s) t ss
 
 -- one undo more
 undo_one : (c s : List ℕ) (past later : List (List ℕ)) (k j steps : ℕ) → k ≤ j
@@ -55,7 +55,7 @@ undo_one c s past later k j steps l = ap (λ ps. record { current = c; past = ps
 
 -- all of them
 undo_all : (b : Kept) (s : List ℕ) (ss later : List (List ℕ)) → length (s ∷ ss) ≤ b.steps
-    → undone_times (length (s ∷ ss)) (with_later (moved_all b (s ∷ ss)) later)
+    → undone_times (length (s ∷ ss)) (with_later (advanced_all b (s ∷ ss)) later)
     ≡ record { current = b.current; past = take (b.steps - length (s ∷ ss)) b.past; to_come = (s ∷ ss) ++ later; steps = b.steps }
 unfolding undone_times
 undo_all b s [] later l =
@@ -67,13 +67,13 @@ undo_all b s (t ∷ ss) later l =
     let j = b.steps - 1 in
     let e : b.steps - suc (length ss) ≡ suc k = omega arith in
     let q : b.steps ≡ suc j = omega arith in
-    ap undone (undo_all (moved_on b s) t ss later (omega arith))
+    ap undone (undo_all (advanced b s) t ss later (omega arith))
     ∙ ap undone (λ i. record { current = s; past = take (e i) (take (q i) (b.current ∷ b.past)); to_come = (t ∷ ss) ++ later; steps = b.steps })
     ∙ undo_one b.current s b.past ((t ∷ ss) ++ later) k j b.steps (omega arith)
 
 pub first_comes_back : FirstComesBack
 first_comes_back b s ss l =
     ap (undone_times (length (s ∷ ss)))
-    (λ i. record { current = (moved_all b (s ∷ ss)).current; past = (moved_all b (s ∷ ss)).past; to_come = none_later b s ss i; steps = (moved_all b (s ∷ ss)).steps })
+    (λ i. record { current = (advanced_all b (s ∷ ss)).current; past = (advanced_all b (s ∷ ss)).past; to_come = none_later b s ss i; steps = (advanced_all b (s ∷ ss)).steps })
     ∙ undo_all b s ss [] l
     ∙ ap (λ later. record { current = b.current; past = take (b.steps - length (s ∷ ss)) b.past; to_come = later; steps = b.steps }) (append-nil (s ∷ ss))

@@ -2,7 +2,7 @@
 use Rattle.std.specs.Prelude.{◌≡◌, ℕ, ◌+◌, ◌*◌, ◌≤◌, List, [], ◌∷◌, length, take}
 use Rattle.recalc.specs.Entries.{entry}
 use Rattle.history.specs.declared.history.History.{History}
-use Rattle.history.specs.Ring.{before, after, with_slot, ahead}
+use Rattle.history.specs.Ring.{before, after, with_slot, slot_after}
 
 -- the current one, and those that undoing and redoing go to, the nearest first; at most `steps` earlier ones are kept
 pub record Kept : Type 0 where
@@ -12,8 +12,8 @@ pub record Kept : Type 0 where
   pub steps : ℕ
 
 -- a change keeps the sheet before it, forgets the oldest past the count, and ends what could be redone
-abbrev pub moved_on : Kept → List ℕ → Kept
-moved_on b s = record { current = s; past = take b.steps (b.current ∷ b.past); to_come = []; steps = b.steps }
+abbrev pub advanced : Kept → List ℕ → Kept
+advanced b s = record { current = s; past = take b.steps (b.current ∷ b.past); to_come = []; steps = b.steps }
 
 -- where there is nothing to undo or to redo, nothing changes
 abbrev pub undone_to : List (List ℕ) → Kept → Kept
@@ -35,8 +35,8 @@ abbrev pub kept : History → List ℕ → Kept
 kept h m =
     record {
       current = entry h.width h.at m;
-      past = before (λ k. entry h.width k m) (1 + h.steps) h.at 1 h.past;
-      to_come = after (λ k. entry h.width k m) (1 + h.steps) h.at 1 h.to_come;
+      past = before (λ k. entry h.width k m) (1 + h.steps) h.at h.past;
+      to_come = after (λ k. entry h.width k m) (1 + h.steps) h.at h.to_come;
       steps = h.steps;
     }
 
@@ -44,6 +44,6 @@ kept h m =
 abbrev pub Roomy : History → List ℕ → Type 0
 Roomy h m = h.width * (1 + h.steps) ≤ length m
 
--- whatever has come to stand in the slot behind the current one, it is the current one now
-abbrev pub MovesOn : History → History → Type 0
-MovesOn h h₁ = (m xs : List ℕ) → Roomy h m → length xs ≡ h.width → kept h₁ (with_slot h.width (ahead (1 + h.steps) h.at 1) xs m) ≡ moved_on (kept h m) xs
+-- whatever has come to stand in the slot after the current one, it is the current one now
+abbrev pub Advances : History → History → Type 0
+Advances h h₁ = (m xs : List ℕ) → Roomy h m → length xs ≡ h.width → kept h₁ (with_slot h.width (slot_after (1 + h.steps) h.at 1) xs m) ≡ advanced (kept h m) xs

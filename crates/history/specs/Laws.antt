@@ -1,11 +1,11 @@
 -- What is promised of undoing and redoing. Assumes nothing: each is a definition or a statement.
 use Rattle.std.specs.Prelude.{◌≡◌, ℕ, zero, suc, ◌-◌, ◌≤◌, List, [], ◌∷◌, length, take}
-use Rattle.history.specs.Kept.{Kept, moved_on, undone, redone}
+use Rattle.history.specs.Kept.{Kept, advanced, undone, redone}
 
 -- one change after the other
-abbrev pub moved_all : Kept → List (List ℕ) → Kept
-moved_all b [] = b
-moved_all b (s ∷ ss) = moved_all (moved_on b s) ss
+abbrev pub advanced_all : Kept → List (List ℕ) → Kept
+advanced_all b [] = b
+advanced_all b (s ∷ ss) = advanced_all (advanced b s) ss
 
 unfoldable pub undone_times : ℕ → Kept → Kept
 undone_times zero b = b
@@ -19,7 +19,7 @@ redone_times (suc n) b = redone_times n (redone b)
 abbrev pub FirstComesBack : Type 0
 FirstComesBack =
     (b : Kept) (s : List ℕ) (ss : List (List ℕ)) → length (s ∷ ss) ≤ b.steps →
-    undone_times (length (s ∷ ss)) (moved_all b (s ∷ ss)) ≡ record { current = b.current; past = take (b.steps - length (s ∷ ss)) b.past; to_come = s ∷ ss; steps = b.steps }
+    undone_times (length (s ∷ ss)) (advanced_all b (s ∷ ss)) ≡ record { current = b.current; past = take (b.steps - length (s ∷ ss)) b.past; to_come = s ∷ ss; steps = b.steps }
 
 -- and as many redos bring back all that there was, from any state; so do undos after redos
 abbrev pub LastComesBack : Type 0

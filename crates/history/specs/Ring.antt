@@ -1,21 +1,24 @@
 -- Slots in a ring. Assumes nothing: these are definitions.
 use Rattle.std.specs.Prelude.{ℕ, zero, suc, ◌+◌, ◌-◌, ◌*◌, cond, List, [], ◌∷◌, ◌++◌, take, drop, nat_le, nat_lt}
 
--- of n slots, the one i slots before slot k, and the one i slots behind it
-abbrev pub behind : ℕ → ℕ → ℕ → ℕ
-behind n k i = cond (nat_le i k) (k - i) (k + n - i)
+-- of n slots, the one i slots before slot k, and the one i slots after it
+abbrev pub slot_before : ℕ → ℕ → ℕ → ℕ
+slot_before n k i = cond (nat_le i k) (k - i) (k + n - i)
 
-abbrev pub ahead : ℕ → ℕ → ℕ → ℕ
-ahead n k i = cond (nat_lt (k + i) n) (k + i) (k + i - n)
+abbrev pub slot_after : ℕ → ℕ → ℕ → ℕ
+slot_after n k i = cond (nat_lt (k + i) n) (k + i) (k + i - n)
 
--- what c slots hold, the nearest first: those before slot k from the one i slots before it on, and those behind it
-unfoldable pub before : (ℕ → List ℕ) → ℕ → ℕ → ℕ → ℕ → List (List ℕ)
-before f n k i zero = []
-before f n k i (suc c) = f (behind n k i) ∷ before f n k (suc i) c
+-- g of c numbers, from i on
+unfoldable pub listed : (ℕ → List ℕ) → ℕ → ℕ → List (List ℕ)
+listed g i zero = []
+listed g i (suc c) = g i ∷ listed g (suc i) c
 
-unfoldable pub after : (ℕ → List ℕ) → ℕ → ℕ → ℕ → ℕ → List (List ℕ)
-after f n k i zero = []
-after f n k i (suc c) = f (ahead n k i) ∷ after f n k (suc i) c
+-- what c slots hold, the nearest first: those before slot k, and those after it
+abbrev pub before : (ℕ → List ℕ) → ℕ → ℕ → ℕ → List (List ℕ)
+before f n k c = listed (λ i. f (slot_before n k i)) 1 c
+
+abbrev pub after : (ℕ → List ℕ) → ℕ → ℕ → ℕ → List (List ℕ)
+after f n k c = listed (λ i. f (slot_after n k i)) 1 c
 
 -- a row with other numbers in slot k
 abbrev pub with_slot : ℕ → ℕ → List ℕ → List ℕ → List ℕ

@@ -1,7 +1,7 @@
 // Which of the sheets that are kept in one memory is the current one, and which can be undone and redone to.
 ghost use Rattle.std.specs.Prelude.{◌≡◌, ℕ, ◌+◌, ◌*◌, ◌^◌, ◌<◌, ◌≤◌, min, List, [], length, IsErr, OnErr, ◌↔◌};
 ghost use Rattle.recalc.specs.Entries.{entry};
-ghost use Rattle.history.specs.Ring.{behind, ahead, with_slot};
+ghost use Rattle.history.specs.Ring.{slot_before, slot_after, with_slot};
 
 // The memory has 1 + steps slots of one width, in a ring: changing moves to the next slot, undoing and redoing move the cursor alone.
 #[derive(Clone, Copy)]
@@ -12,7 +12,7 @@ pub struct History {
     steps: usize,
     // The slot of the current sheet.
     at: usize,
-    // So many slots before it can be undone to, and so many behind it redone to.
+    // So many slots before it can be undone to, and so many after it redone to.
     past: usize,
     to_come: usize,
     ghost small: { (1 + steps) * width < 2 ^ 64 },
@@ -25,7 +25,7 @@ pub struct History {
 pub struct NothingKept;
 
 impl History {
-    ghost use Rattle.history.specs.Kept.{kept, undone, redone, Roomy, MovesOn};
+    ghost use Rattle.history.specs.Kept.{kept, undone, redone, Roomy, Advances};
 
     // The sheet in the first slot is the current one, and no other is kept.
     pub fn new(steps: usize, width: usize) -> History
@@ -50,14 +50,14 @@ impl History {
         self.width * self.at
     }
 
-    fn slot_before(&self) -> usize
-        ensures { result ≡ behind (1 + self.now.steps) self.now.at 1 }
+    fn previous_slot(&self) -> usize
+        ensures { result ≡ slot_before (1 + self.now.steps) self.now.at 1 }
     {
         self.at.checked_sub(1).unwrap_or(self.steps)
     }
 
-    fn slot_behind(&self) -> usize
-        ensures is { result ≡ ahead (1 + self.now.steps) self.now.at 1 }
+    fn next_slot(&self) -> usize
+        ensures is { result ≡ slot_after (1 + self.now.steps) self.now.at 1 }
         ensures there { result ≤ self.now.steps }
     {
         if self.at < self.steps { self.at + 1 } else { 0 }
@@ -77,24 +77,24 @@ impl History {
     // Copies the current sheet into the next slot, where it is to be changed; where that begins.
     pub fn prepare(&self, memory: &mut [u64]) -> usize
         requires { Roomy self.now memory.old }
-        ensures start { result ≡ self.now.width * ahead (1 + self.now.steps) self.now.at 1 }
+        ensures start { result ≡ self.now.width * slot_after (1 + self.now.steps) self.now.at 1 }
         ensures within { result + self.now.width ≤ length memory.new }
-        ensures copied { memory.new ≡ with_slot self.now.width (ahead (1 + self.now.steps) self.now.at 1) (entry self.now.width self.now.at memory.old) memory.old }
+        ensures copied { memory.new ≡ with_slot self.now.width (slot_after (1 + self.now.steps) self.now.at 1) (entry self.now.width self.now.at memory.old) memory.old }
     {
         let from = self.start();
-        let to = self.width * self.slot_behind();
+        let to = self.width * self.next_slot();
         memory.copy_within(from..from + self.width, to);
         to
     }
 
     // What stands in the next slot is the current sheet now, and the one before it is kept.
     pub fn advance(&mut self)
-        ensures moves { MovesOn self.old self.new }
+        ensures advances { Advances self.old self.new }
         ensures slots { (self.new.width ≡ self.old.width) × (self.new.steps ≡ self.old.steps) }
     {
         self.to_come = 0;
         self.past = self.past_after();
-        self.at = self.slot_behind();
+        self.at = self.next_slot();
     }
 
     // Back to the nearest earlier sheet; nothing is copied.
@@ -107,7 +107,7 @@ impl History {
         if self.past == 0 {
             return Err(NothingKept);
         }
-        self.at = self.slot_before();
+        self.at = self.previous_slot();
         self.past -= 1;
         self.to_come += 1;
         Ok(())
@@ -123,7 +123,7 @@ impl History {
         if self.to_come == 0 {
             return Err(NothingKept);
         }
-        self.at = self.slot_behind();
+        self.at = self.next_slot();
         self.past += 1;
         self.to_come -= 1;
         Ok(())

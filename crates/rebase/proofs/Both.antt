@@ -14,9 +14,8 @@ use Rattle.edit.specs.declared.write.Write as code
 use Rattle.edit.specs.Writes.{Write, written}
 use Rattle.rebase.specs.Carried.{all_written, carried, accepted}
 use Rattle.rebase.specs.Promise.{Together, BroughtTogether}
-use Rattle.rebase.specs.Rows.{sheet_rebased}
 use Rattle.rebase.proofs.Carrying.{all_carried, same_trans}
-use Rattle.rebase.proofs.InRow.{row_same, row_is}
+use Rattle.rebase.proofs.InRow.{sheet_rebased, row_same, row_is}
 
 -- a shift that is not refused has its line
 pub allowed_takes : (most : Size) → most.rows < 2 ^ 64 → most.cols < 2 ^ 64 → (s : Sheet) (d : Shift) → Allowed d s most → Takes d.change d.line (lines d.axis s)

@@ -3,7 +3,7 @@ use Rattle.std.proofs.Common.{◌≡◌, ℕ, ◌*◌, ◌++◌, Bool, true, fal
 use Rattle.std.specs.Option.{option_map}
 use Rattle.formula.specs.declared.token.CellRef.{CellRef}
 use Rattle.formula.specs.Tokens.{the_ref}
-use Rattle.formula.specs.Results.{and_then}
+use Rattle.formula.specs.Results.{answered}
 use Rattle.formula.specs.Formula.{Formula}
 use Rattle.formula.specs.Reading.{spelled}
 use Rattle.formula.specs.Moving.{moved_row}
@@ -20,7 +20,7 @@ use Rattle.edit.specs.Writes.{Write, asked, allowed}
 use Rattle.edit.specs.Memory.{State, Wrote, Writes}
 use Rattle.rebase.specs.declared.rebased.Rebased.{Rebased}
 use Rattle.rebase.specs.declared.rebased.Rebased.TheVariants.{Written}
-use Rattle.rebase.specs.Rebased.{moved_write, rebased, answer_of, state_after, state_if, sheet_if, Does, state_then, sheet_then, Rebases}
+use Rattle.rebase.specs.Rebased.{moved_write, undropped, rebased, answer_of, state_after, Does, state_then, sheet_then, Rebases}
 use Rattle.rebase.proofs.Carrying.{same_refl}
 
 -- what was written is all that there is
@@ -35,7 +35,7 @@ after_write v a b w = λ i. record {
 pub does : (w : code.Write) (a b : State) (r : Result (Unit {0}) Refusal) → Writes w a r b → Does (allowed w (sheet_in a.nums)) a r b
 does w a b r h = let t = go (allowed w (sheet_in a.nums)) refl in record { answer = h.answer; state = t.0; sheet = t.1 }
   where
-    go : (o : Result Write Refusal) → allowed w (sheet_in a.nums) ≡ o → (b ≡ state_if o a) × Same (sheet_in b.nums) (sheet_if o (sheet_in a.nums))
+    go : (o : Result Write Refusal) → allowed w (sheet_in a.nums) ≡ o → (b ≡ state_then (undropped o) a) × Same (sheet_in b.nums) (sheet_then (undropped o) (sheet_in a.nums))
     go (Ok v) e = (after_write v a b (h.wrote v e), (h.wrote v e).sheet)
     go (Err x) e = (h.refused x e, subst (λ (y : State). Same (sheet_in y.nums) (sheet_in a.nums)) (sym (h.refused x e)) (same_refl (sheet_in a.nums)))
 
@@ -64,16 +64,15 @@ rebases d w a b r p e h = go (place_lost d w.place.row w.place.col) refl e
     q : CellRef
     q = the_ref (row_to d w.place.row) (col_to d w.place.col)
 
-    done : (o : Result Write Refusal) → Does o a r b
-        → (as_rebased r ≡ answer_of (and_then o (λ v. Ok (Some v)))) × (b ≡ state_then (and_then o (λ v. Ok (Some v))) a)
-        × Same (sheet_in b.nums) (sheet_then (and_then o (λ v. Ok (Some v))) t)
-    done (Ok v) x = (ap as_rebased x.answer, x.state, x.sheet)
-    done (Err y) x = (ap as_rebased x.answer, x.state, x.sheet)
+    done : (o : Result Write Refusal) → r ≡ answered o → as_rebased r ≡ answer_of (undropped o)
+    done (Ok v) e = ap as_rebased e
+    done (Err y) e = ap as_rebased e
 
     go : (l : Bool) → place_lost d w.place.row w.place.col ≡ l → Some p ≡ unless l q → Rebases d w a (as_rebased r) b
     go true l e = absurd (cc)
     go false l e =
         let z : p ≡ q = cc in
-        let x = done (moved_write d t q (asked w.formula)) (subst (λ i. Does (moved_write d t i (asked w.formula)) a r b) z h) in
-        let is : rebased d w t ≡ and_then (moved_write d t q (asked w.formula)) (λ v. Ok (Some v)) = rw l refl in
-        record { answer = x.0 ∙ ap answer_of (sym is); state = x.1 ∙ ap (λ o. state_then o a) (sym is); sheet = subst (λ o. Same (sheet_in b.nums) (sheet_then o t)) (sym is) x.2 }
+        let o = moved_write d t q (asked w.formula) in
+        let x = subst (λ i. Does (moved_write d t i (asked w.formula)) a r b) z h in
+        let is : rebased d w t ≡ undropped o = rw l refl in
+        record { answer = done o x.answer ∙ ap answer_of (sym is); state = x.state ∙ ap (λ y. state_then y a) (sym is); sheet = subst (λ y. Same (sheet_in b.nums) (sheet_then y t)) (sym is) x.sheet }

@@ -24,7 +24,6 @@ use Rattle.edit.specs.Memory.{State}
 use Rattle.rebase.specs.declared.rebased.Rebased.{Rebased}
 use Rattle.rebase.specs.Carried.{all_written, write_to, with_any, carried, accept, accepted}
 use Rattle.rebase.specs.Rebased.{moved_write, rebased, sheet_then, Rebases, state_rebased, answers_rebased}
-use Rattle.rebase.specs.Rows.{sheet_rebased}
 use Rattle.rebase.proofs.Carrying.{written_same}
 
 -- sheets of one size refuse and take the same writes
@@ -47,7 +46,12 @@ then_same (Ok None) s t e = e
 then_same (Ok (Some v)) s t e = written_same v s t e
 then_same (Err x) s t e = e
 
--- and the same row
+-- a row of carried writes, sheet by sheet
+unfoldable pub sheet_rebased : Shift → List code.Write → Sheet → Sheet
+sheet_rebased d [] t = t
+sheet_rebased d (w ∷ ws) t = sheet_rebased d ws (sheet_then (rebased d w t) t)
+
+-- on sheets that hold the same it comes to the same
 pub row_same : (d : Shift) (ws : List code.Write) (s t : Sheet) → Same s t → Same (sheet_rebased d ws s) (sheet_rebased d ws t)
 unfolding sheet_rebased
 row_same d [] s t e = e
@@ -97,9 +101,9 @@ line_inside Insert p v n t e = grind (arith, nat_tests)
 line_inside Delete p v n t e = grind (arith, nat_tests)
 
 -- so is a place
-place_inside : (d : Shift) (s t : Sheet) → Takes d.change d.line (lines d.axis s) → t.rows ≡ rows_after d s.rows → t.cols ≡ cols_after d s.cols
+moved_inside : (d : Shift) (s t : Sheet) → Takes d.change d.line (lines d.axis s) → t.rows ≡ rows_after d s.rows → t.cols ≡ cols_after d s.cols
     → (r c : ℕ) → place_lost d r c ≡ false → inside t (row_to d r) (col_to d c) ≡ inside s r c
-place_inside d s t k p q r c e =
+moved_inside d s t k p q r c e =
     (λ i. ltb (row_to d r) (p i) && ltb (col_to d c) (q i)) ∙ go d.axis k e
   where
     go : (a : Axis) → Takes d.change d.line (lines a s) → line_lost d.change d.line (by_axis a r c) ≡ false
@@ -146,5 +150,5 @@ module _ (d : Shift) (s : Sheet) (k : Takes d.change d.line (lines d.axis s)) wh
       go f g true (Some x) e = g ∙ lost x (inside s r c) e
       go f g false None e = g
       go f g false (Some x) e =
-          ap (λ b. sheet_rebased d ws (sheet_then (and_then (cond b (Ok (write_to d (asks x))) (Err Outside)) (λ v. Ok (Some v))) t)) (place_inside d s t k p q r c e)
+          ap (λ b. sheet_rebased d ws (sheet_then (and_then (cond b (Ok (write_to d (asks x))) (Err Outside)) (λ v. Ok (Some v))) t)) (moved_inside d s t k p q r c e)
           ∙ moved f g x (inside s r c) e

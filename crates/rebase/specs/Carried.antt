@@ -29,11 +29,12 @@ unfoldable pub carried : Shift → List Write → List Write
 carried d [] = []
 carried d (w ∷ ws) = with_any (carried_one d w) (carried d ws)
 
--- the writes that the code asks for on the sheet s, but for those that are refused
+-- with a write, unless it is refused
 abbrev pub accept : Result Write Refusal → List Write → List Write
 accept (Ok v) vs = v ∷ vs
 accept (Err e) vs = vs
 
+-- the writes that the code asks for on the sheet s, but for those that are refused
 unfoldable pub accepted : List code.Write → Sheet → List Write
 accepted [] s = []
 accepted (w ∷ ws) s = accept (allowed w s) (accepted ws s)

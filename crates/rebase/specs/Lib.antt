@@ -1,4 +1,3 @@
 pub mod Carried
 pub mod Rebased
-pub mod Rows
 pub mod Promise

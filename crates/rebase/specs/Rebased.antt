@@ -24,11 +24,15 @@ use Rattle.rebase.specs.declared.rebased.Rebased.TheVariants.{Written, Dropped}
 abbrev pub moved_write : Shift → Sheet → CellRef → Option (Option Formula) → Result Write Refusal
 moved_write d t p x = put_inside t p.row p.col (option_map (shift_cell d) x)
 
+-- a write that is not dropped
+abbrev pub undropped : Result Write Refusal → Result (Option Write) Refusal
+undropped r = and_then r (λ v. Ok (Some v))
+
 -- the write that the code asks for, carried over a shift to the sheet t after it: None if its line was deleted
 abbrev pub rebased : Shift → code.Write → Sheet → Result (Option Write) Refusal
 rebased d w t =
     cond (place_lost d w.place.row w.place.col) (Ok None)
-    (and_then (moved_write d t (the_ref (row_to d w.place.row) (col_to d w.place.col)) (asked w.formula)) (λ v. Ok (Some v)))
+    (undropped (moved_write d t (the_ref (row_to d w.place.row) (col_to d w.place.col)) (asked w.formula)))
 
 abbrev pub became : Option Write → Rebased
 became None = Dropped
@@ -49,22 +53,6 @@ state_after v a =
       recalculated = worked v (sheet_in a.nums);
     }
 
--- and where it is refused, what there was
-abbrev pub state_if : Result Write Refusal → State → State
-state_if (Ok v) a = state_after v a
-state_if (Err e) a = a
-
--- the sheet after a write, and where it is refused the one before
-abbrev pub sheet_if : Result Write Refusal → Sheet → Sheet
-sheet_if (Ok v) s = written v s
-sheet_if (Err e) s = s
-
--- what a write promises where r is what is asked for
-pub record Does (r : Result Write Refusal) (a : State) (result : Result (Unit {0}) Refusal) (b : State) : Type 0 where
-  pub answer : result ≡ answered r
-  pub state : b ≡ state_if r a
-  pub sheet : Same (sheet_in b.nums) (sheet_if r (sheet_in a.nums))
-
 -- dropped or refused, it leaves what there was
 abbrev pub state_then : Result (Option Write) Refusal → State → State
 state_then (Ok None) a = a
@@ -75,6 +63,12 @@ abbrev pub sheet_then : Result (Option Write) Refusal → Sheet → Sheet
 sheet_then (Ok None) s = s
 sheet_then (Ok (Some v)) s = written v s
 sheet_then (Err e) s = s
+
+-- what a write promises where r is what is asked for
+pub record Does (r : Result Write Refusal) (a : State) (result : Result (Unit {0}) Refusal) (b : State) : Type 0 where
+  pub answer : result ≡ answered r
+  pub state : b ≡ state_then (undropped r) a
+  pub sheet : Same (sheet_in b.nums) (sheet_then (undropped r) (sheet_in a.nums))
 
 -- what one carried write promises
 pub record Rebases (d : Shift) (w : code.Write) (a : State) (r : Result Rebased Refusal) (b : State) : Type 0 where

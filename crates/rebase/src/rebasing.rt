@@ -22,7 +22,7 @@ fn carry_tokens(tokens: &[u64], shift: Shift, carried: &mut [u64])
     rewrite(carried, &shift);
 }
 
-// Writes at a place what a shift makes of a formula.
+// Writes at a place what a shift makes of a formula. More tokens than a formula can have are none, and have no room in the buffer.
 fn write_carried(
     sheet: &mut ShownSheet<'_>,
     place: CellRef,
@@ -44,20 +44,20 @@ fn write_carried(
     sheet.write(Write { place, formula }, room, changes)
 }
 
-// Writes at a place what a shift makes of what was asked for.
+// Does a write that has its new place already, and its formula as it was.
 fn write_moved(
     sheet: &mut ShownSheet<'_>,
-    moved: Write<'_>,
+    write: Write<'_>,
     shift: Shift,
     room: &mut Room,
     changes: &mut Changes,
 ) -> Result<(), Refusal>
     ensures same { (sheet.new.nums.ghost_name ≡ sheet.old.nums.ghost_name) × (sheet.new.values.ghost_name ≡ sheet.old.values.ghost_name) }
-    ensures does { Does (moved_write shift (sheet_in sheet.old.nums.now) moved.entry.place (asked moved.entry.formula)) (state sheet.old.nums.now sheet.old.values.now changes.old) result (state sheet.new.nums.now sheet.new.values.now changes.new) }
+    ensures does { Does (moved_write shift (sheet_in sheet.old.nums.now) write.entry.place (asked write.entry.formula)) (state sheet.old.nums.now sheet.old.values.now changes.old) result (state sheet.new.nums.now sheet.new.values.now changes.new) }
 {
-    match moved.formula {
-        None => sheet.write(moved, room, changes),
-        Some(tokens) => write_carried(sheet, moved.place, tokens, shift, room, changes),
+    match write.formula {
+        None => sheet.write(write, room, changes),
+        Some(tokens) => write_carried(sheet, write.place, tokens, shift, room, changes),
     }
 }
 

@@ -1,4 +1,5 @@
 // Writes carried over rows and columns that come in or go.
+use crate::places::listed;
 use edit::{Changes, Room, ShownSheet, Write};
 use formula::CellRef;
 use rebase::{Rebased, rebase_all, rebase_write};
@@ -183,14 +184,9 @@ fn each_write_has_its_lists(rt: HostRuntime) -> Result<(), Fail> {
     let write = write_at(2, 0, Some(&TOTAL));
     let answer = rebase_write(&mut sheet, insert, write, &mut desk.room, &mut desk.changes);
     assert!(rt; matches!(answer, Ok(Rebased::Written)));
-    let there = CellRef { row: 3, col: 0 };
-    assert!(rt;
-        desk.changes
-            .recalculated()
-            .iter()
-            .all(|place| place.row == there.row && place.col == there.col)
-    );
-    assert_eq!(rt; desk.changes.recalculated().len(), 1);
+    // It is worked out where the write went, and shows the 10 that stood there.
+    assert_eq!(rt; listed(heap, desk.changes.changed())?.as_str(), "");
+    assert_eq!(rt; listed(heap, desk.changes.recalculated())?.as_str(), " 3,0");
     // The total has its last row still: 1 + 2 + 3 + 4.
     let Some(values) = sheet.values().get(12..14) else {
         return Err(Fail::new("too short"));

@@ -2,7 +2,7 @@ use Rattle.std.proofs.Common.{◌≡◌, ◌+◌, ◌≤◌, ◌++◌, length, d
 use Rattle.recalc.specs.Sheets.{sheet_in, Same}
 use Rattle.edit.specs.States.{state}
 use Rattle.rebase.specs.Rebased.{state_rebased, answers_rebased}
-use Rattle.rebase.specs.Rows.{sheet_rebased}
+use Rattle.rebase.proofs.InRow.{sheet_rebased}
 use Rattle.rebase.proofs.all.rebase_all.Given as goal
 
 -- what is left to be done comes to what the whole row does
