@@ -101,7 +101,7 @@ line_inside Insert p v n t e = grind (arith, nat_tests)
 line_inside Delete p v n t e = grind (arith, nat_tests)
 
 -- so is a place
-moved_inside : (d : Shift) (s t : Sheet) → Takes d.change d.line (lines d.axis s) → t.rows ≡ rows_after d s.rows → t.cols ≡ cols_after d s.cols
+pub moved_inside : (d : Shift) (s t : Sheet) → Takes d.change d.line (lines d.axis s) → t.rows ≡ rows_after d s.rows → t.cols ≡ cols_after d s.cols
     → (r c : ℕ) → place_lost d r c ≡ false → inside t (row_to d r) (col_to d c) ≡ inside s r c
 moved_inside d s t k p q r c e =
     (λ i. ltb (row_to d r) (p i) && ltb (col_to d c) (q i)) ∙ go d.axis k e

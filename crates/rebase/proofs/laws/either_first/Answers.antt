@@ -1,7 +1,10 @@
 -- Either order comes to the same. Assumes nothing.
 use Rattle.rebase.proofs.Carrying.{same_refl}
-use Rattle.rebase.proofs.Both.{together}
+use Rattle.rebase.proofs.Both.{together, refused_alike}
 use Rattle.rebase.proofs.laws.either_first.Goals as goal
 
-pub returns : goal.returns
-returns c most u v s d ws ok = together most u v s d ws ok _ (same_refl _)
+pub returns-clause-same : goal.returns-clause-same
+returns-clause-same c most u v s d ws ok = together most u v s d ws ok _ (same_refl _)
+
+pub returns-clause-refused : goal.returns-clause-refused
+returns-clause-refused c = refused_alike
