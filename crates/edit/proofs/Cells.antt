@@ -3,9 +3,8 @@ use Rattle.std.proofs.Common.{◌≡◌, ℕ, ◌+◌, ◌*◌, ◌/◌, ◌%◌
 use lib.ListN.{length-replicate}
 use Rattle.std.specs.Option.{option_map}
 use Rattle.std.proofs.lemmas.Nat.{div-mul-add, mod-mul-add}
-use Rattle.std.proofs.lemmas.List.{append_assoc, append-nil, take_at, drop_at, length-take-le, get_or_append_left, get_or-take}
-use Rattle.std.proofs.lemmas.Slice.{drop-append-drop}
-use Rattle.std.proofs.lemmas.Bool.{and_parts, and_from, eqb-true, eq-eqb, cases_eq, cases_order, true≢false}
+use Rattle.std.proofs.lemmas.List.{append-nil, length-take-le, get_or_append_left, get_or-take}
+use Rattle.std.proofs.lemmas.Bool.{and_parts, and_from, eqb-true, eq-eqb, cases_eq, true≢false}
 use Rattle.formula.specs.Layout.{cell_len}
 use Rattle.formula.specs.Formula.{Formula}
 use Rattle.formula.specs.Reading.{spelled}
@@ -15,7 +14,7 @@ use Rattle.formula.proofs.Contents.{tidy, stored_read}
 use Rattle.recalc.specs.Layout.{header_len, rows_in, cols_in, sheet_len, cell_numbers, is_malformed, first_malformed, size_in, checked, Sized}
 use Rattle.recalc.specs.Sheets.{inside, held, formula_in, sheet_in}
 use Rattle.recalc.specs.Numbered.{count}
-use Rattle.recalc.proofs.Entries.{part_front}
+use Rattle.recalc.proofs.Entries.{part_there, part_other, entries_apart}
 use Rattle.recalc.proofs.Malformed.{none_malformed, each_formed}
 use Rattle.recalc.specs.SheetLaws.{inside_is, number_inside}
 use Rattle.recalc.proofs.Numbered.{checked_sized, checked_formed, is_checked}
@@ -74,21 +73,11 @@ module _ (xs cell : List ℕ) (k n : ℕ) (long : length cell ≡ cell_len) (roo
 
   -- the cell is the new one
   pub cell_there : cell_numbers k (with_cell k cell xs) ≡ cell
-  cell_there =
-      ap (take cell_len) (drop_at (take (sheet_len k) xs) (cell ++ drop (sheet_len k + cell_len) xs) (sheet_len k) front_long)
-      ∙ take_at cell (drop (sheet_len k + cell_len) xs) cell_len long
+  cell_there = part_there (sheet_len k) cell_len cell xs long (omega arith)
 
   -- the other cells stay
   pub cell_kept : (i : ℕ) → (i ≡ k → ⊥) → cell_numbers i (with_cell k cell xs) ≡ cell_numbers i xs
-  cell_kept i ne = go (cases_order i k)
-    where
-      go : (i ≡ k) ⊎ ((i < k) ⊎ (k < i)) → cell_numbers i (with_cell k cell xs) ≡ cell_numbers i xs
-      go (inl e) = absurd (ne e)
-      go (inr (inl h)) = part_front (sheet_len i) cell_len (sheet_len k) xs (cell ++ drop (sheet_len k + cell_len) xs) (omega arith) (omega arith)
-      go (inr (inr h)) =
-          let f = front_long in
-          ap (λ ys. take cell_len (drop (sheet_len i) ys)) (sym (append_assoc (take (sheet_len k) xs) cell (drop (sheet_len k + cell_len) xs)))
-          ∙ ap (take cell_len) (drop-append-drop (sheet_len k + cell_len) xs (take (sheet_len k) xs ++ cell) (sheet_len i) (omega arith) (simp length-append (omega arith)))
+  cell_kept i ne = part_other (sheet_len k) cell_len cell xs long (omega arith) (sheet_len i) (entries_apart header_len cell_len i k ne)
 
 module _ (w : Write) (xs : List ℕ) (ok : is_ok (checked xs) ≡ true) (within : inside (sheet_in xs) w.row w.col ≡ true) (x : Storable w.what) where
   -- the number of the cell, and the memory afterwards

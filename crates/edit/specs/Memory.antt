@@ -1,11 +1,12 @@
 -- A sheet in lent memory after a write, with the row of what it shows and the two lists. Assumes nothing: these are definitions.
-use Rattle.std.specs.Prelude.{◌≡◌, ℕ, ◌+◌, ◌*◌, true, List, ◌++◌, take, drop, replicate, is_ok, Some, None, Ok, Err, Option, Result}
+use Rattle.std.specs.Prelude.{◌≡◌, ℕ, ◌+◌, ◌*◌, true, List, ◌++◌, drop, replicate, is_ok, Some, None, Ok, Err, Option, Result}
 use Rattle.formula.specs.declared.token.CellRef.{CellRef}
 use Rattle.formula.specs.Layout.{cell_len}
 use Rattle.formula.specs.Formula.{Formula}
 use Rattle.formula.specs.Cells.{stored}
 use Rattle.recalc.specs.declared.refusal.Refusal.{Refusal}
 use Rattle.recalc.specs.Layout.{cols_in, sheet_len, size_in, checked}
+use Rattle.recalc.specs.Entries.{with_part}
 use Rattle.recalc.specs.Numbered.{count}
 use Rattle.recalc.specs.Sheets.{Same, sheet_in}
 use Rattle.recalc.specs.Showing.{sheet_values, ShownIn, shown_in}
@@ -20,7 +21,7 @@ cell_stored (Some f) = stored f
 
 -- cell k becomes these numbers, and all else is as it was
 abbrev pub with_cell : ℕ → List ℕ → List ℕ → List ℕ
-with_cell k cell xs = take (sheet_len k) xs ++ (cell ++ drop (sheet_len k + cell_len) xs)
+with_cell k cell xs = with_part (sheet_len k) cell_len cell xs
 
 -- the memory after a write
 abbrev pub written_memory : Write → List ℕ → List ℕ

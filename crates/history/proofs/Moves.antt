@@ -1,5 +1,5 @@
 -- What each step of the cursor makes of what is kept. Assumes nothing.
-use Rattle.std.proofs.Common.{◌≡◌, ℕ, zero, suc, ◌+◌, ◌-◌, ◌*◌, ◌<◌, ◌≤◌, min, List, [], ◌∷◌, length, take, sym, ap, ◌∙◌, mul-le-mul_left, arith}
+use Rattle.std.proofs.Common.{◌≡◌, ℕ, zero, suc, ◌+◌, ◌-◌, ◌*◌, ◌≤◌, min, List, [], ◌∷◌, length, take, sym, ap, ◌∙◌, mul-le-mul_left, arith}
 use Rattle.std.proofs.lemmas.Bool.Decides.{nat_tests}
 use Rattle.recalc.specs.Entries.{entry}
 use Rattle.history.specs.Ring.{slot_before, slot_after, listed, before, after, with_slot}

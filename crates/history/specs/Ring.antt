@@ -1,5 +1,6 @@
 -- Slots in a ring. Assumes nothing: these are definitions.
-use Rattle.std.specs.Prelude.{ℕ, zero, suc, ◌+◌, ◌-◌, ◌*◌, cond, List, [], ◌∷◌, ◌++◌, take, drop, nat_le, nat_lt}
+use Rattle.std.specs.Prelude.{ℕ, zero, suc, ◌+◌, ◌-◌, ◌*◌, cond, List, [], ◌∷◌, nat_le, nat_lt}
+use Rattle.recalc.specs.Entries.{with_part}
 
 -- of n slots, the one i slots before slot k, and the one i slots after it
 abbrev pub slot_before : ℕ → ℕ → ℕ → ℕ
@@ -22,4 +23,4 @@ after f n k c = listed (λ i. f (slot_after n k i)) 1 c
 
 -- a row with other numbers in slot k
 abbrev pub with_slot : ℕ → ℕ → List ℕ → List ℕ → List ℕ
-with_slot w k ys m = take (w * k) m ++ (ys ++ drop (w * k + w) m)
+with_slot w k ys m = with_part (w * k) w ys m

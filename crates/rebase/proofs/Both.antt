@@ -7,31 +7,20 @@ use Rattle.formula.specs.Results.{answered}
 use Rattle.recalc.specs.declared.refusal.Refusal.TheVariants.{Outside}
 use Rattle.recalc.specs.declared.size.Size.{Size}
 use Rattle.recalc.specs.Sheets.{Sheet, sheet_in, inside, Same}
-use Rattle.recalc.proofs.Shown.{same_shown}
-use Rattle.shift.specs.declared.shift.Change.{Change}
-use Rattle.shift.specs.declared.shift.Change.TheVariants.{Insert, Delete}
+use Rattle.recalc.proofs.Shown.{same_shown, same_trans}
 use Rattle.shift.specs.declared.shift.Shift.{Shift}
-use Rattle.shift.specs.Shifts.{by_axis, row_to, col_to, rows_after, cols_after}
-use Rattle.shift.specs.Sheets.{shifted, shift_cell, line_allowed, Allowed}
-use Rattle.shift.proofs.Held.{Takes, lines}
-use Rattle.shift.proofs.Kept.{insert_takes, delete_takes, fewer, insertion_keeps, deletion_blanks}
+use Rattle.shift.specs.Shifts.{row_to, col_to, rows_after, cols_after}
+use Rattle.shift.specs.Sheets.{shifted, shift_cell, Allowed}
+use Rattle.shift.proofs.Kept.{allowed_takes, insertion_keeps, deletion_blanks}
 use Rattle.edit.specs.declared.write.Write as code
 use Rattle.edit.specs.Writes.{Write, written, asked, put_inside}
 use Rattle.rebase.specs.Carried.{all_written, carried, accepted}
 use Rattle.rebase.specs.Rebased.{undropped, moved_write}
 use Rattle.rebase.specs.Promise.{Together, RefusedAlike, BroughtTogether}
-use Rattle.rebase.proofs.Carrying.{all_carried, same_trans}
+use Rattle.rebase.proofs.Carrying.{all_carried}
 use Rattle.rebase.proofs.InRow.{sheet_rebased, row_same, row_is, moved_inside}
 
--- a shift that is not refused has its line
-pub allowed_takes : (most : Size) → most.rows < 2 ^ 64 → most.cols < 2 ^ 64 → (s : Sheet) (d : Shift) → Allowed d s most → Takes d.change d.line (lines d.axis s)
-allowed_takes most u v s d ok = go d.change ok
-  where
-    go : (h : Change) → line_allowed h d.line (lines d.axis s) (by_axis d.axis most.rows most.cols) ≡ Ok tt → Takes h d.line (lines d.axis s)
-    go Insert e = insert_takes d.line (lines d.axis s) (by_axis d.axis most.rows most.cols) (fewer d.axis most u v) e
-    go Delete e = delete_takes d.line (lines d.axis s) (by_axis d.axis most.rows most.cols) e
-
--- and is not refused after writes
+-- a shift that is not refused is not after writes
 still_allowed : (most : Size) (d : Shift) (ws : List Write) (s : Sheet) → Allowed d s most → Allowed d (all_written ws s) most
 unfolding all_written
 still_allowed most d [] s ok = ok

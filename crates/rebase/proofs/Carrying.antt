@@ -4,6 +4,7 @@ use mathlib.Core.Path.{fun_ext}
 use Rattle.std.proofs.lemmas.Bool.Decides.{nat_tests}
 use Rattle.formula.specs.Formula.{Formula}
 use Rattle.recalc.specs.Sheets.{Sheet, Same}
+use Rattle.recalc.proofs.Shown.{same_refl, same_trans}
 use Rattle.shift.specs.declared.shift.Axis.{Axis}
 use Rattle.shift.specs.declared.shift.Axis.TheVariants.{Row, Column}
 use Rattle.shift.specs.declared.shift.Change.{Change}
@@ -41,12 +42,6 @@ line_written Column w s i j = grind (arith, nat_tests)
 same_lines : (a : Axis) (s t : Sheet) → s.rows ≡ t.rows → s.cols ≡ t.cols → ((i j : ℕ) → lines_of a s i j ≡ lines_of a t i j) → Same s t
 same_lines Row s t p q e = record { rows = p; cols = q; cells = λ r c. e r c }
 same_lines Column s t p q e = record { rows = p; cols = q; cells = λ r c. e c r }
-
-pub same_refl : (s : Sheet) → Same s s
-same_refl s = record { rows = refl; cols = refl; cells = λ r c. refl }
-
-pub same_trans : {s t u : Sheet} → Same s t → Same t u → Same s u
-same_trans a b = record { rows = a.rows ∙ b.rows; cols = a.cols ∙ b.cols; cells = λ r c. a.cells r c ∙ b.cells r c }
 
 -- the same write into sheets that hold the same
 pub written_same : (w : Write) (s t : Sheet) → Same s t → Same (written w s) (written w t)

@@ -21,7 +21,7 @@ use Rattle.edit.specs.Memory.{State, Wrote, Writes}
 use Rattle.rebase.specs.declared.rebased.Rebased.{Rebased}
 use Rattle.rebase.specs.declared.rebased.Rebased.TheVariants.{Written}
 use Rattle.rebase.specs.Rebased.{moved_write, undropped, rebased, answer_of, state_after, Does, state_then, sheet_then, Rebases}
-use Rattle.rebase.proofs.Carrying.{same_refl}
+use Rattle.recalc.proofs.Shown.{same_refl}
 
 -- what was written is all that there is
 pub after_write : (v : Write) (a b : State) → Wrote v a b → b ≡ state_after v a

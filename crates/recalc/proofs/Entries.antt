@@ -1,12 +1,13 @@
 -- Entries of one length, one after the other. Assumes nothing.
-use Rattle.std.specs.Prelude.{◌≡◌, ℕ, zero, suc, ◌+◌, ◌-◌, ◌*◌, ◌<◌, ◌≤◌, List, ◌++◌, length, take, drop, refl}
+use Rattle.std.specs.Prelude.{◌≡◌, ℕ, zero, suc, ◌+◌, ◌-◌, ◌*◌, ◌<◌, ◌≤◌, ◌⊎◌, List, ◌++◌, length, take, drop, refl}
 use Rattle.std.proofs.Math.Path.{sym, ap}
-use Rattle.std.proofs.Common.{◌∙◌, mul-zero, arith, length-take, length-drop}
+use Rattle.std.proofs.Common.{◌∙◌, inl, inr, mul-zero, mul-le-mul_left, arith, length-take, length-drop}
 use Rattle.std.proofs.Math.Nat.{mul-suc}
 use Rattle.std.proofs.Math.ListN.{length-append}
-use Rattle.std.proofs.lemmas.List.{append_assoc, append-nil, take_at, drop_at, drop-drop, take-take, drop-take, take-append-le, drop-append-le, take-append-drop}
+use Rattle.std.proofs.lemmas.List.{append_assoc, append-nil, length-take-le, take_at, drop_at, drop-drop, take-take, drop-take, take-append-le, drop-append-le, take-append-drop}
+use Rattle.std.proofs.lemmas.Bool.{cases_order}
 use Rattle.std.proofs.lemmas.Slice.{drop-append-drop}
-use Rattle.recalc.specs.Entries.{entry, entries_from}
+use Rattle.recalc.specs.Entries.{entry, entries_from, with_part}
 
 -- a part of a row that begins as another does
 pub part_front : (m len n : ℕ) (xs rest : List ℕ) → m + len ≤ n → n ≤ length xs → take len (drop m (take n xs ++ rest)) ≡ take len (drop m xs)
@@ -17,6 +18,33 @@ part_front m len n xs rest h l =
     ap (take len) (drop-append-le m (take n xs) rest front ∙ ap (λ ys. ys ++ rest) part)
     ∙ take-append-le len (take (n - m) (drop m xs)) rest (simp (length-take, length-drop) (omega arith))
     ∙ take-take len (n - m) (drop m xs) (omega arith)
+
+-- a part of a row is overwritten: it has the new numbers, and what lies before or behind it is as it was
+module _ (m len : ℕ) (part xs : List ℕ) (long : length part ≡ len) (room : m + len ≤ length xs) where
+  front_long : length (take m xs) ≡ m
+  front_long = length-take-le m xs (omega arith)
+
+  pub part_there : take len (drop m (with_part m len part xs)) ≡ part
+  part_there = ap (take len) (drop_at (take m xs) (part ++ drop (m + len) xs) m front_long) ∙ take_at part (drop (m + len) xs) len long
+
+  pub part_other : (i : ℕ) → (i + len ≤ m) ⊎ (m + len ≤ i) → take len (drop i (with_part m len part xs)) ≡ take len (drop i xs)
+  part_other i (inl h) = part_front i len m xs (part ++ drop (m + len) xs) h (omega arith)
+  part_other i (inr h) =
+      let f = front_long in
+      ap (λ ys. take len (drop i ys)) (sym (append_assoc (take m xs) part (drop (m + len) xs)))
+      ∙ ap (take len) (drop-append-drop (m + len) xs (take m xs ++ part) i h (simp length-append (omega arith)))
+
+-- two entries, behind b numbers, do not overlap
+pub entries_apart : (b len i k : ℕ) → (i ≡ k → ⊥) → (b + len * i + len ≤ b + len * k) ⊎ (b + len * k + len ≤ b + len * i)
+entries_apart b len i k ne = go (cases_order i k)
+  where
+    ordered : (i k : ℕ) → i < k → b + len * i + len ≤ b + len * k
+    ordered i k l = let t : suc i ≤ k = omega arith in omega (arith, mul-suc len i, mul-le-mul_left len t)
+
+    go : (i ≡ k) ⊎ ((i < k) ⊎ (k < i)) → (b + len * i + len ≤ b + len * k) ⊎ (b + len * k + len ≤ b + len * i)
+    go (inl e) = absurd (ne e)
+    go (inr (inl l)) = inl (ordered i k l)
+    go (inr (inr l)) = inr (ordered k i l)
 
 -- an entry behind n numbers
 pub entry_behind : (len j n : ℕ) (ys xs : List ℕ) → length ys ≡ n → n ≤ len * j → entry len j (ys ++ drop n xs) ≡ entry len j xs

@@ -26,6 +26,13 @@ pub shown_is_consistent : ShownIsConsistent
 unfolding sheets.shown sheets.deep
 shown_is_consistent s r c = sym (deeper_is_the_same s (suc (suc (s.rows * s.cols))) r c (omega arith))
 
+-- to hold the same
+pub same_refl : (s : Sheet) → Same s s
+same_refl s = record { rows = refl; cols = refl; cells = λ r c. refl }
+
+pub same_trans : {s t u : Sheet} → Same s t → Same t u → Same s u
+same_trans a b = record { rows = a.rows ∙ b.rows; cols = a.cols ∙ b.cols; cells = λ r c. a.cells r c ∙ b.cells r c }
+
 -- sheets that hold the same show the same, at each depth and in the end
 same_deep : (s t : Sheet) → Same s t → (n r c : ℕ) → sheets.deep n s r c ≡ sheets.deep n t r c
 unfolding sheets.deep

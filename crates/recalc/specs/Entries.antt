@@ -1,9 +1,13 @@
 -- Numbers in entries of one length, in reading order: the cells of a sheet in memory, and what they show. Assumes nothing: these are definitions.
-use Rattle.std.specs.Prelude.{ℕ, zero, suc, ◌*◌, ◌/◌, ◌%◌, List, [], ◌++◌, take, drop}
+use Rattle.std.specs.Prelude.{ℕ, zero, suc, ◌+◌, ◌*◌, ◌/◌, ◌%◌, List, [], ◌++◌, take, drop}
 
 -- entry k of a row, where each has len numbers
 abbrev pub entry : ℕ → ℕ → List ℕ → List ℕ
 entry len k xs = take len (drop (len * k) xs)
+
+-- a row of which the len numbers from number m on are others
+abbrev pub with_part : ℕ → ℕ → List ℕ → List ℕ → List ℕ
+with_part m len part xs = take m xs ++ (part ++ drop (m + len) xs)
 
 -- n entries, from entry k on
 unfoldable pub entries_from : (ℕ → List ℕ) → ℕ → ℕ → List ℕ

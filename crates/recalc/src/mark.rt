@@ -1,4 +1,4 @@
-// What a change asks of a cell.
+// What a change asks of a cell, and whether it was done.
 ghost use Rattle.std.specs.Prelude.{◌≡◌};
 ghost use Rattle.recalc.specs.Marks.{is_marked, worked_out, mark_if};
 
@@ -6,9 +6,9 @@ ghost use Rattle.recalc.specs.Marks.{is_marked, worked_out, mark_if};
 pub enum Mark {
     // Nothing, as far as is known.
     Clean,
-    // That it is worked out again.
+    // To be worked out again.
     Dirty,
-    // That was done.
+    // Worked out again.
     Recalculated,
 }
 

@@ -22,7 +22,7 @@ struct Recalculation<'a, F: Formulas, B: Before> {
     table: &'a mut [Progress],
     // What of that is what it showed.
     kept: &'a mut [Progress],
-    // At first which cells were written, and then which are dirty.
+    // At first which cells were written, then which are dirty, and at the end which were recalculated.
     marks: &'a mut [Mark],
     // The open cells, each looked at by the one before it, are the first `depth` of these. No stack of its own type in here: tried, and what
     // the lent lists hold at the end was not known.

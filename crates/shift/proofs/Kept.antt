@@ -83,6 +83,14 @@ pub fewer : (a : Axis) (most : Size) → most.rows < 2 ^ 64 → most.cols < 2 ^ 
 fewer Row most h k = h
 fewer Column most h k = k
 
+-- a shift that is not refused has its line
+pub allowed_takes : (most : Size) → most.rows < 2 ^ 64 → most.cols < 2 ^ 64 → (s : Sheet) (d : Shift) → Allowed d s most → Takes d.change d.line (lines d.axis s)
+allowed_takes most u v s d ok = go d.change ok
+  where
+    go : (h : Change) → line_allowed h d.line (lines d.axis s) (by_axis d.axis most.rows most.cols) ≡ Ok tt → Takes h d.line (lines d.axis s)
+    go Insert e = insert_takes d.line (lines d.axis s) (by_axis d.axis most.rows most.cols) (fewer d.axis most u v) e
+    go Delete e = delete_takes d.line (lines d.axis s) (by_axis d.axis most.rows most.cols) e
+
 -- a line of which each place is empty
 at_line : (a : Axis) (f : ℕ → ℕ → Value) (p : ℕ) → ((j : ℕ) → by_line a f p j ≡ Empty) → (r c : ℕ) → by_axis a r c ≡ p → f r c ≡ Empty
 at_line Row f p e r c q = rw q (e c)
@@ -98,7 +106,7 @@ insertion_keeps most h k s d e ok = go d.axis d.change d.line e ok
     go a Delete p e ok = absurd (grind arith)
     go a Insert p e ok =
         let d = the_shift a Insert p in
-        let b = shown_beside a Insert p s (insert_takes p (lines a s) (by_axis a most.rows most.cols) (fewer a most h k) ok) in
+        let b = shown_beside a Insert p s (allowed_takes most h k s d ok) in
         ((λ r c. kept_place a Insert p (shown s) (shown (shifted d s)) b r c refl), at_line a (shown (shifted d s)) p b.0.here)
 
 -- a deletion shows what was shown with the line blank

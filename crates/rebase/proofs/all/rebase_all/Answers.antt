@@ -3,7 +3,7 @@ use Rattle.std.proofs.lemmas.List.{append-nil, length_push}
 use Rattle.recalc.specs.Sheets.{sheet_in, Same}
 use Rattle.edit.specs.States.{state}
 use Rattle.rebase.specs.Rebased.{answers_rebased}
-use Rattle.rebase.proofs.Carrying.{same_trans}
+use Rattle.recalc.proofs.Shown.{same_trans}
 use Rattle.rebase.proofs.InRow.{sheet_rebased, state_more, answers_more, sheet_more, state_done, answers_done, sheet_done}
 use Rattle.rebase.proofs.Both.{brought_together}
 use Rattle.rebase.proofs.all.rebase_all.Goals as goal

@@ -1,5 +1,5 @@
 -- Either order comes to the same. Assumes nothing.
-use Rattle.rebase.proofs.Carrying.{same_refl}
+use Rattle.recalc.proofs.Shown.{same_refl}
 use Rattle.rebase.proofs.Both.{together, refused_alike}
 use Rattle.rebase.proofs.laws.either_first.Goals as goal
 
