@@ -1,5 +1,5 @@
 -- What is read is what is spelled. Assumes nothing.
-use Rattle.std.proofs.Common.{◌≡◌, ℕ, ◌≤◌, Bool, true, false, cond, leb, List, [], ◌∷◌, length, Some, None, refl, ◌∙◌, arith}
+use Rattle.std.proofs.Common.{◌≡◌, ℕ, ◌≤◌, Bool, true, false, cond, leb, List, [], ◌∷◌, length, Some, None, refl, ap, ◌∙◌, arith}
 use Rattle.std.proofs.lemmas.Bool.{le-leb, leb-true}
 use Rattle.formula.specs.declared.token.Token.{Token}
 use Rattle.formula.specs.declared.token.Token.TheVariants.{Number, Cell, Fold, Binary, IfLess}
@@ -7,7 +7,7 @@ use Rattle.formula.specs.Layout.{formula_len}
 use Rattle.formula.specs.Tokens.{decoded}
 use Rattle.formula.specs.Formula.{Formula}
 use Rattle.formula.specs.Spelling.{Spells, a_number, a_cell, a_fold, an_operation, a_choice}
-use Rattle.formula.specs.Reading.{Read, read, joins, reads, ends, whole, spelled}
+use Rattle.formula.specs.Reading.{Read, read, joins, reads, formula_at, ends, whole, spelled}
 use Rattle.formula.proofs.Steps.{by_token, reads_step, reads_none}
 
 -- what is spelled is read
@@ -57,3 +57,7 @@ whole_spelled ws f e = go (leb (length ws) formula_len) refl e
     go : (b : Bool) → leb (length ws) formula_len ≡ b → cond b (whole (reads ws)) None ≡ Some f → (length ws ≤ formula_len) × Spells ws f []
     go true l e = (leb-true (length ws) formula_len l, inner (reads ws) (chain ws) e)
     go false l e = absurd (grind arith)
+
+-- the formula that a row is stands first in it
+pub spelled_first : (ws : List ℕ) (f : Formula) → spelled ws ≡ Some f → formula_at 0 (reads ws) ≡ Some f
+spelled_first ws f e = ap (formula_at 0) (reads_spelled (whole_spelled ws f e).1)

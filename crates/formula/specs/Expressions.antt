@@ -9,7 +9,7 @@ use Rattle.formula.specs.Reading.{reads, formula_at}
 
 -- the formula that an expression is
 abbrev pub formula_of : Expression → Option Formula
-formula_of e = formula_at 0 (reads e.tokens.now)
+formula_of e = formula_at e.nth (reads e.tokens.now)
 
 abbrev pub of_two : (Formula → Formula → Formula) → Option Formula → Option Formula → Option Formula
 of_two f None y = None

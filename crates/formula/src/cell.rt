@@ -81,6 +81,7 @@ impl<'a> Expression<'a> {
         }
         Some(Expression {
             tokens: &numbers[1..1 + TOKEN_LEN * count],
+            nth: 0,
         })
     }
 }

@@ -26,10 +26,7 @@ fn operand(tokens: &[u64], nth: usize) -> Expression<'_>
     ensures is { formula_of result ≡ formula_at nth (reads tokens.now) }
     ensures within { length result.tokens.now ≤ length tokens.now }
 {
-    let Some(tokens) = skip(tokens, nth) else {
-        unreachable()
-    };
-    Expression { tokens }
+    Expression { tokens, nth }
 }
 
 impl<'a> Expression<'a> {
@@ -40,14 +37,14 @@ impl<'a> Expression<'a> {
         if tokens.len() > FORMULA_LEN || !skip(tokens, 1)?.is_empty() {
             return None;
         }
-        Some(Expression { tokens })
+        Some(Expression { tokens, nth: 0 })
     }
 
     pub fn node(self) -> Node<'a>
         ensures is { formula_of self.entry ≡ formula_in result }
         ensures smaller { OperandsWithin (length self.entry.tokens.now) result }
     {
-        let Some((token, rest)) = read_operand(self.tokens, 0) else {
+        let Some((token, rest)) = read_operand(self.tokens, self.nth) else {
             unreachable()
         };
         match token {

@@ -1,6 +1,8 @@
 // Numbers read from a text: words of decimal digits between white space.
-ghost use Rattle.std.specs.Prelude.{◌≡◌, Ok, MatchResult};
-ghost use Rattle.notation.specs.Numbers.{white, appended, number, numbers_of};
+ghost use Rattle.std.specs.Prelude.{◌≡◌, ◌++◌, Ok, MatchResult};
+ghost use Rattle.std.specs.Option.{option_to_list};
+ghost use Rattle.notation.specs.declared.text_error.TextError.TheVariants.{OutOfMemory};
+ghost use Rattle.notation.specs.Numbers.{white, appended, numbers_of};
 ghost use Rattle.notation.specs.Errors.{Refuses};
 
 use crate::text_error::TextError;
@@ -13,7 +15,7 @@ fn is_white(byte: u8) -> bool
     matches!(byte, b' ' | b'\t' | b'\n' | b'\r')
 }
 
-// A number with a byte more; None where that is no digit, or the number grows past 64 bits.
+// A number with a byte more; None where that is no digit, or the number grows past 64 bits. Not u64::from_str, which takes a sign too.
 fn append_digit(number: u64, byte: u8) -> Option<u64>
     ensures { result ≡ appended number byte }
 {
@@ -23,30 +25,36 @@ fn append_digit(number: u64, byte: u8) -> Option<u64>
     number.checked_mul(10)?.checked_add(u64::from(byte - b'0'))
 }
 
-// The number that a word of digits stands for. Not u64::from_str, which takes a sign too.
-fn number(word: &[u8]) -> Option<u64>
-    ensures { result ≡ number word.now }
+// Keeps the number of a word that has ended, if there was one.
+fn keep(numbers: &mut Vec<u64>, word: Option<u64>) -> Result<(), TextError>
+    ensures { MatchResult result (λ _. numbers.new.items ≡ numbers.old.items ++ option_to_list word) (λ e. e ≡ OutOfMemory) }
 {
-    // Tried try_fold: that what it gives is what the digits come to, one after the other, stayed open.
-    let mut number = 0;
-    for byte in word {
-        number = append_digit(number, *byte)?;
+    if let Some(number) = word {
+        numbers.push(number)?;
     }
-    Some(number)
+    Ok(())
 }
 
-// All numbers of a text; or which word is the first that is no number.
+// All numbers of a text; or which word is the first that is no number. Byte by byte: `split` goes to the end of a word before it gives it, and
+// a word that is no number may be as long as the text.
 pub fn parse_numbers(heap: Global, text: &str) -> Result<Vec<u64>, TextError>
     ensures { MatchResult result (λ v. numbers_of text.now ≡ Ok v.items) (Refuses text.now) }
 {
-    let words = text
-        .as_bytes()
-        .split(|byte| is_white(*byte))
-        .filter(|word| !word.is_empty());
+    let bytes = text.as_bytes();
     let mut numbers = Vec::new(heap);
-    for word in words {
-        let number = number(word).ok_or(TextError::NotANumber(numbers.len() + 1))?;
-        numbers.push(number)?;
+    // The number of the word that has begun.
+    let mut word = None;
+    for byte in bytes {
+        if is_white(*byte) {
+            keep(&mut numbers, word)?;
+            word = None;
+        } else {
+            let Some(number) = append_digit(word.unwrap_or(0), *byte) else {
+                return Err(TextError::NotANumber(numbers.len() + 1));
+            };
+            word = Some(number);
+        }
     }
+    keep(&mut numbers, word)?;
     Ok(numbers)
 }

@@ -102,7 +102,8 @@ impl Display for Operand<'_> {
     fn fmt<W: fmt::Write>(&self, f: &mut fmt::Formatter<W>) -> fmt::Result {
         let (open, close) = parentheses(self.inside);
         match self.expression.node() {
-            Node::Number(n) => n.fmt(f),
+            // Not n.fmt(f): a formula is written alike under every width.
+            Node::Number(n) => write!(f, "{n}"),
             Node::Cell(cell) => Place(cell).fmt(f),
             Node::Fold(aggregate, range) => Fold { aggregate, range }.fmt(f),
             Node::Binary(operator, left, right) => {

@@ -19,7 +19,7 @@ use Rattle.recalc.specs.declared.refusal.Refusal.TheVariants.{Rows, Columns, Sho
 use Rattle.recalc.specs.Layout.{rows_in, cols_in, sheet_len, cell_numbers, first_malformed, unless_malformed, within, size_in, checked, Sized}
 use Rattle.recalc.specs.Table.{at, Right, Has, Answers, NeedsWithin}
 use Rattle.recalc.specs.Sheets.{Sheet, inside, formula_in, sheet_in}
-use Rattle.recalc.specs.Numbered.{count, number_of, nth_cell, laid, worked, LooksAt, known_of, laid_known, tried, tried_cell, as_attempt}
+use Rattle.recalc.specs.Numbered.{count, number_of, nth_cell, laid, worked, LooksAt, known_of, laid_known, tried, tried_cell, as_attempt, readable}
 use Rattle.recalc.specs.SheetLaws.{number_inside}
 use Rattle.recalc.proofs.Fitting.{within_is, is_within}
 use Rattle.recalc.proofs.Tries.{RightAt, made, wanted}
@@ -144,6 +144,18 @@ pub wanted_there : (xs : List ℕ) (z : Size) (T : List Progress) (k : ℕ) (q :
     → tried_cell (laid_known z.rows z.cols T) (nth_cell (sheet_in xs) k) ≡ Err q → inside (sheet_in xs) q.row q.col ≡ true
 wanted_there xs z T k q same e =
     wanted_inside (sheet_in xs) T k q (ap (λ (y : Size). tried_cell (laid_known y.rows y.cols T) (nth_cell (sheet_in xs) k)) (sym same) ∙ e)
+
+-- where there is a cell to show, the memory is a sheet
+pub record LentCell (xs : List ℕ) : Type 0 where
+  pub is : readable xs ≡ sheet_in xs
+  pub sized : Sized xs (size_in xs)
+
+pub lent_cell : (xs : List ℕ) (k : ℕ) → k < count (readable xs) → LentCell xs
+lent_cell xs k l = go (is_ok (checked xs)) refl l
+  where
+    go : (b : Bool) → is_ok (checked xs) ≡ b → k < count (cond b (sheet_in xs) (record { rows = 0; cols = 0; cells = λ r c. None })) → LentCell xs
+    go true e l = record { is = cond-true (is_ok (checked xs)) (sheet_in xs) _ e; sized = checked_sized xs e }
+    go false e l = absurd (omega arith)
 
 -- what an attempt at a cell of the sheet in memory answers is what the engine asks
 pub lent_answers : (xs : List ℕ) (z : Size) (T : List Progress) (k : ℕ) → z ≡ size_in xs

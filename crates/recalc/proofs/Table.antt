@@ -7,6 +7,19 @@ use Rattle.recalc.specs.declared.formulas.Progress.{Progress}
 use Rattle.recalc.specs.declared.formulas.Progress.TheVariants.{Waiting, Open, Known}
 use Rattle.recalc.specs.Table.{at, Later, waiting}
 
+-- what is not waiting lies in the table
+pub inside : (t : List Progress) (k : ℕ) → (at t k ≡ Waiting → ⊥) → k < length t
+inside t k h = ⊎_elim (λ l. l) (λ l. absurd (h (get_or_past t k Waiting l))) (cases_lt k (length t))
+
+pub open_inside : (t : List Progress) (k i : ℕ) → at t k ≡ Open i → k < length t
+open_inside t k i e = inside t k (λ w. let z : ◌≡◌ {A = ℕ} 0 1 = cc in omega arith)
+
+-- what neither waits nor is known is open
+pub open_else : (p : Progress) → (p ≡ Waiting → ⊥) → ((v : Value) → p ≡ Known v → ⊥) → (i : ℕ) × (p ≡ Open i)
+open_else Waiting w n = absurd (w refl)
+open_else (Open i) w n = (i, refl)
+open_else (Known v) w n = absurd (n v refl)
+
 -- one entry of a list is set, and k is asked about
 pub by_entry : {A : Type 0} (d : A) (xs : List A) (j : ℕ) (x : A) (P : ℕ → A → Type 0) → j < length xs → P j x → ((k : ℕ) → k ≢ j → P k (get_or xs k d)) → (k : ℕ) → P k (get_or (set xs j x) k d)
 by_entry d xs j x P l here there k =
@@ -26,6 +39,20 @@ waiting_less (Known v ∷ t) zero x l e h = let z : ◌≡◌ {A = ℕ} 0 1 = cc
 waiting_less (Waiting ∷ t) (suc k) x l e h = omega (arith, waiting_less t k x (omega arith) e h)
 waiting_less (Open i ∷ t) (suc k) x l e h = waiting_less t k x (omega arith) e h
 waiting_less (Known v ∷ t) (suc k) x l e h = waiting_less t k x (omega arith) e h
+
+pub waiting_same : (t : List Progress) (k : ℕ) (x : Progress) → (at t k ≡ Waiting → ⊥) → (x ≡ Waiting → ⊥) → waiting (set t k x) ≡ waiting t
+unfolding waiting
+waiting_same [] k x e h = refl
+waiting_same (Waiting ∷ t) zero x e h = absurd (e refl)
+waiting_same (Open i ∷ t) zero Waiting e h = absurd (h refl)
+waiting_same (Open i ∷ t) zero (Open j) e h = refl
+waiting_same (Open i ∷ t) zero (Known v) e h = refl
+waiting_same (Known v ∷ t) zero Waiting e h = absurd (h refl)
+waiting_same (Known v ∷ t) zero (Open j) e h = refl
+waiting_same (Known v ∷ t) zero (Known w) e h = refl
+waiting_same (Waiting ∷ t) (suc k) x e h = ap suc (waiting_same t k x e h)
+waiting_same (Open i ∷ t) (suc k) x e h = waiting_same t k x e h
+waiting_same (Known v ∷ t) (suc k) x e h = waiting_same t k x e h
 
 -- nothing becomes waiting by a set to what is not
 pub later_set : (t : List Progress) (j : ℕ) (x : Progress) → j < length t → (x ≡ Waiting → ⊥) → Later t (set t j x)

@@ -1,5 +1,5 @@
 -- The cells of a sheet by their numbers in reading order, as the engine has them. Assumes nothing: these are definitions.
-use Rattle.std.specs.Prelude.{◌≡◌, ℕ, ◌+◌, ◌*◌, ◌/◌, ◌%◌, true, cond, List, Some, None, Ok, Err, Option, Result}
+use Rattle.std.specs.Prelude.{◌≡◌, ℕ, ◌+◌, ◌*◌, ◌/◌, ◌%◌, true, cond, List, is_ok, Some, None, Ok, Err, Option, Result}
 use Rattle.formula.specs.declared.token.CellRef.{CellRef}
 use Rattle.formula.specs.Formula.{Formula}
 use Rattle.evaluate.specs.declared.value.Value.{Value}
@@ -10,8 +10,9 @@ use Rattle.evaluate.specs.Evaluation.{attempt}
 use Rattle.evaluate.specs.Knowledge.{In}
 use Rattle.recalc.specs.declared.formulas.Progress.{Progress}
 use Rattle.recalc.specs.declared.formulas.Progress.TheVariants.{Waiting, Open, Known}
+use Rattle.recalc.specs.Layout.{checked}
 use Rattle.recalc.specs.Table.{at}
-use Rattle.recalc.specs.Sheets.{Sheet, inside, held, cell_shows, cell_looks}
+use Rattle.recalc.specs.Sheets.{Sheet, inside, held, cell_shows, cell_looks, sheet_in}
 use Rattle.recalc.specs.Language.{Language}
 
 abbrev pub count : Sheet → ℕ
@@ -48,6 +49,10 @@ laid_known h w t r c = cond (inside (record { rows = h; cols = w; cells = λ i j
 -- a sheet as a language of formulas
 abbrev pub sheet_language : Sheet → Language
 sheet_language s = record { count = count s; work = worked s; looks = LooksAt s }
+
+-- the sheet that lies in a memory; none where that is refused
+abbrev pub readable : List ℕ → Sheet
+readable xs = cond (is_ok (checked xs)) (sheet_in xs) (record { rows = 0; cols = 0; cells = λ r c. None })
 
 -- the end of a formula's work as what its cell shows, or the place that is wanted
 abbrev pub tried : Result ℕ Stop → Result Value CellRef

@@ -1,5 +1,5 @@
 -- Where an entry of a shifted grid came from. Assumes nothing.
-use Rattle.std.proofs.Common.{◌≡◌, ℕ, zero, suc, ◌+◌, ◌-◌, ◌*◌, ◌/◌, ◌%◌, ◌<◌, ◌≤◌, Bool, true, false, cond, eqb, ltb, ◌⊎◌, List, Some, None, sym, refl, ap, ◌∙◌, inl, inr, arith}
+use Rattle.std.proofs.Common.{◌≡◌, ℕ, zero, suc, ◌+◌, ◌-◌, ◌*◌, ◌/◌, ◌%◌, ◌<◌, ◌≤◌, Bool, true, false, cond, eqb, ltb, ◌⊎◌, List, Some, None, sym, refl, ap, ◌∙◌, subst, inl, inr, mul-le-mul_left, arith}
 use Rattle.std.proofs.lemmas.Bool.Decides.{nat_tests}
 use Rattle.std.proofs.lemmas.Bool.{cases_lt, cases_order}
 use Rattle.std.proofs.lemmas.Nat.{mul-le, mul-add-lt, div-add-mod', div_below, mod_below}
@@ -291,3 +291,25 @@ first_left d size s = go d.axis d.change d.line s
 pub few_cells : (d : Shift) (size : Size) → Shiftable d size → (cells_of size ≤ max_cells) × (cells_of (size_after d size) ≤ max_cells)
 few_cells d size s =
     (mul-le size.rows size.cols max_rows max_columns s.few_rows s.few_cols, mul-le (rows_after d size.rows) (cols_after d size.cols) max_rows max_columns s.rows_left s.cols_left)
+
+-- where there are fewer cells than before, or no more
+pub cells_toward : (d : Shift) (size : Size) → Shiftable d size → Toward d.change (cells_of size) (cells_of (size_after d size))
+cells_toward d size s = go d.axis d.change
+  where
+    go : (a : Axis) (h : Change) → Toward h (cells_of size) (cells_of (size_after (the_shift a h d.line) size))
+    go Row Insert = mul-le size.rows size.cols (size.rows + 1) size.cols (omega arith) (omega arith)
+    go Row Delete = mul-le (size.rows - 1) size.cols size.rows size.cols (omega arith) (omega arith)
+    go Column Insert = mul-le size.rows size.cols size.rows (size.cols + 1) (omega arith) (omega arith)
+    go Column Delete = mul-le size.rows (size.cols - 1) size.rows size.cols (omega arith) (omega arith)
+
+-- where a line was inserted there is room for all that was there
+pub room_inserted : (d : Shift) (size : Size) (len n : ℕ) → Shiftable d size → d.change ≡ Insert → len * (cells_of (size_after d size) - first_entry d size) ≤ n
+    → len * (cells_of size - first_entry d size) ≤ n
+room_inserted d size len n s e room =
+    let t : cells_of size ≤ cells_of (size_after d size) = subst (λ h. Toward h (cells_of size) (cells_of (size_after d size))) e (cells_toward d size s) in
+    let l : cells_of size - first_entry d size ≤ cells_of (size_after d size) - first_entry d size = omega arith in
+    omega (arith, mul-le-mul_left len l)
+
+-- where a line was deleted there is no more left than was there
+pub left_deleted : (d : Shift) (size : Size) → Shiftable d size → d.change ≡ Delete → cells_of (size_after d size) ≤ cells_of size
+left_deleted d size s e = subst (λ h. Toward h (cells_of size) (cells_of (size_after d size))) e (cells_toward d size s)

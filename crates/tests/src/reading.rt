@@ -13,6 +13,9 @@ fn reads(rt: &(impl Abort + AllocGlobal), row: &str, text: &str) -> Result<(), F
     };
     let shown = format!(in heap; "{notation}")?;
     assert_eq!(rt; shown.as_str(), text);
+    // Alike under every width.
+    let wide = format!(in heap; "{notation:>9}")?;
+    assert_eq!(rt; wide.as_str(), text);
     Ok(())
 }
 

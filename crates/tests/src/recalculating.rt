@@ -1,6 +1,6 @@
 // The engine in lists whose length is known only when the program runs.
 use evaluate::Value;
-use recalc::{LentSheet, Lists, Mark, Progress, recalculate};
+use recalc::{Lent, LentSheet, Lists, Mark, Progress, Unshown, recalculate};
 use samples::{add_cell, new_sheet};
 use std::test::*;
 
@@ -39,6 +39,22 @@ fn lists_of_any_length(rt: HostRuntime) -> Result<(), Fail> {
             marks.as_slice(),
             [Mark::Recalculated, Mark::Recalculated, Mark::Clean]
         )
+    );
+    Ok(())
+}
+
+// A memory that is refused is a language without cells.
+#[test]
+fn no_cells_in_a_refused_memory(rt: HostRuntime) -> Result<(), Fail> {
+    let nums = [0, 1];
+    assert!(rt; LentSheet::check(&nums).is_err());
+    recalculate(
+        &Lent { nums: &nums },
+        &Unshown,
+        &mut [],
+        &mut [],
+        &mut [],
+        &mut [],
     );
     Ok(())
 }
