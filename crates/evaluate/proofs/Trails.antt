@@ -1,10 +1,11 @@
 -- Code that follows a piece of work, look by look. Assumes nothing.
-use Rattle.std.proofs.Common.{◌≡◌, ℕ, suc, ◌+◌, ◌-◌, ◌<◌, ◌≤◌, Bool, true, false, cond, ◌&&◌, ltb, ◌⊎◌, List, [], ◌∷◌, ◌++◌, length, Ok, Err, Result, sym, refl, ap, ◌∙◌, inl, inr, arith, length-append}
+use Rattle.std.proofs.Common.{◌≡◌, ℕ, suc, ◌+◌, ◌-◌, ◌<◌, ◌≤◌, Bool, true, false, cond, ◌&&◌, ltb, ◌⊎◌, List, [], ◌∷◌, ◌++◌, length, Ok, Err, Option, Result, sym, refl, ap, ◌∙◌, inl, inr, arith, length-append}
 use Rattle.std.proofs.lemmas.List.{append_assoc, append-nil}
 use Rattle.std.proofs.lemmas.Bool.{true≢false, lt-ltb, le-ltb}
 use Rattle.formula.specs.declared.token.CellRef.{CellRef}
+use Rattle.evaluate.specs.declared.value.Value.{Value}
 use Rattle.evaluate.specs.declared.stop.Stop.{Stop}
-use Rattle.evaluate.specs.Traces.{Trace, ends, bind, looks_on, then, each}
+use Rattle.evaluate.specs.Traces.{Trace, ends, seen, look, bind, looks_on, then, each}
 use Rattle.evaluate.specs.Trails.{inside, Log, Kept, Follows}
 
 kept_none : (o : Log) → Kept o [] o
@@ -60,6 +61,11 @@ module _ (h w : ℕ) (p : CellRef) where
       go false = kept_none a
 
 module _ {h w : ℕ} {before after : Log} where
+  -- a look at a place of the sheet
+  pub follows_look : {A : Type 0} (f : ℕ → ℕ → Option Value) (p : CellRef) (go : Option ℕ → A) (r : Result A Stop) → p.row < h → p.col < w
+      → Kept before (p ∷ []) after → r ≡ seen p (f p.row p.col) go → Follows h w (look f p go) r before after
+  follows_look f p go r a b k e = record { end = e; trail = noted_inside h w p before after a b k }
+
   pub follows_then : {A B : Type 0} (t : Trace A) (go : A → Trace B) (a : A) (r : Result B Stop) (mid : Log)
       → Follows h w t (Ok a) before mid → Follows h w (go a) r mid after → Follows h w (then t go) r before after
   follows_then t go a r mid x y =

@@ -1,7 +1,9 @@
 -- The search for a malformed cell, cell by cell. Assumes nothing.
 use Rattle.std.proofs.Common.{◌≡◌, ℕ, zero, suc, ◌+◌, ◌-◌, ◌<◌, ◌≤◌, Bool, true, false, cond, ◌⊎◌, List, Some, None, refl, inl, inr, arith}
 use Rattle.std.proofs.lemmas.Bool.{cases_lt}
-use Rattle.formula.specs.Cells.{content}
+use Rattle.formula.specs.declared.cell.Cell.{Cell}
+use Rattle.formula.specs.declared.cell.Cell.TheVariants as cell
+use Rattle.formula.specs.Cells.{content, meant}
 use Rattle.recalc.specs.Layout.{cell_numbers, is_malformed, first_malformed}
 
 module _ (xs : List ℕ) (k n : ℕ) where
@@ -16,6 +18,12 @@ module _ (xs : List ℕ) (k n : ℕ) where
   pub none_left : n ≤ k → first_malformed k (n - k) xs ≡ None
   unfolding first_malformed
   none_left l = let m : n - k ≡ 0 = omega arith in rw m
+
+-- what the code sees of a cell
+pub seen_whole : (x : Cell) → (x ≡ cell.Malformed → ⊥) → is_malformed (meant x) ≡ false
+seen_whole cell.Blank h = refl
+seen_whole (cell.Formula ts) h = refl
+seen_whole cell.Malformed h = absurd (h refl)
 
 -- no cell is malformed, one by one
 pub none_malformed : (xs : List ℕ) (k n : ℕ) → ((i : ℕ) → k ≤ i → i < k + n → is_malformed (content (cell_numbers i xs)) ≡ false) → first_malformed k n xs ≡ None

@@ -1,4 +1,4 @@
--- A sheet is a lawful language: the proof that `LentSheet` hands to the engine, with its lemmas. Assumes nothing.
+-- A sheet is a lawful language: the proof that `LentSheet` and `Lent` hand to the engine, with its lemmas. Assumes nothing.
 use Rattle.std.specs.Prelude.{◌≡◌, ℕ, ◌<◌, Bool, true, false, cond, Some, None, Option, nat_lt}
 use Rattle.std.proofs.Math.Path.{refl, ap}
 use Rattle.std.proofs.Common.{sym, subst, ◌∙◌, arith}
